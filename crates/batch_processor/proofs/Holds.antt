@@ -27,7 +27,7 @@ use Rattle.model_processor.specs.WorkerClauses.{Origin}
 use Rattle.model_processor.specs.AnyAccounts as holders
 use Rattle.model_processor.specs.AnyAccounts.{AnyAccount, account_in, after_flush, after_shutdown}
 use Rattle.model_processor.specs.AnyAccounts.{on_pass, on_worker, origin_in, pass, pass_accounts}
-use Rattle.model_processor.specs.AnyAccounts.{processor, worker, worker_in}
+use Rattle.model_processor.specs.AnyAccounts.{worker, worker_in}
 use Rattle.model_processor.specs.Kept.{Agrees, IsShared, Kept, shown_out}
 use Rattle.model_processor.proofs.AccountState.{agrees_there, origin_there}
 use Rattle.model_processor.proofs.Passes.{full_agrees, late_agrees, queued_agrees}

@@ -1,11 +1,11 @@
 -- What the lock of a batch processor guards, what holds of it ask for, whom they wake, and what
 -- they do to an account. (Trace SDK, ForceFlush, Shutdown; profile)
 use Rattle.std.specs.Prelude.{◌≡◌, ℕ, ◌≤◌, ◌==◌, ◌&&◌, ◌||◌, not, Bool, true, false, List, []}
-use Rattle.std.specs.Prelude.{Contains, length, map, Option, Some, None, is_some, Result, OnOk}
+use Rattle.std.specs.Prelude.{Contains, length, map, Some, None, is_some, Result, OnOk}
 use Rattle.std.specs.Prelude.{OnErr}
 use Rattle.model_span.specs.Spans.{SpanData}
 use Rattle.model_span.specs.Dropped.{entry_of}
-use Rattle.model_desk.specs.Desks.{Desk, accepted_count, is_due, is_flushed, new_desk}
+use Rattle.model_desk.specs.Desks.{Desk, accepted_count, is_due, is_flushed}
 use Rattle.model_desk.specs.Queue.{lost_names}
 use Rattle.drop_ledger.specs.Counts.{drop_counts_view}
 use Rattle.batch_desk.specs.Batch.{BatchView, NamedView, SettledView}
@@ -14,7 +14,7 @@ use Rattle.batch_desk.specs.declared.totals.Totals.{Totals}
 use Rattle.model_processor.specs.Passes.{PassAccount}
 use Rattle.model_processor.specs.WorkerClauses.{Origin}
 use Rattle.model_processor.specs.AnyAccounts.{AnyAccount, account_in, after_flush, after_shutdown}
-use Rattle.model_processor.specs.AnyAccounts.{new_origin, on_pass, origin_in, pass, worker_in}
+use Rattle.model_processor.specs.AnyAccounts.{on_pass, origin_in, pass, worker_in}
 use Rattle.model_processor.specs.Kept.{Kept}
 use Rattle.batch_processor.specs.declared.fault.WorkerLeft.{WorkerLeft}
 use Rattle.batch_processor.specs.declared.hold.Wake.{Wake}

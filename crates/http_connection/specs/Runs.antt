@@ -1,5 +1,5 @@
 -- What a connection does with its service, and the bytes that it puts out for it.
-use Rattle.std.specs.Prelude.{◌≡◌, ℕ, ◌≤◌, ◌⊎◌, Bool, true, false, List, [], ◌∷◌, ◌++◌, length}
+use Rattle.std.specs.Prelude.{◌≡◌, ℕ, ◌≤◌, ◌⊎◌, Bool, false, List, [], ◌∷◌, ◌++◌, length}
 use Rattle.std.specs.Prelude.{flat_map, Option, Some, None, if◌then◌else◌}
 use Rattle.http.specs.declared.request.Parts.{Parts}
 use Rattle.http.specs.declared.request.Request.{Request}
@@ -9,7 +9,6 @@ use Rattle.http1.specs.Framing.{method_kind}
 use Rattle.http1.specs.Server as http1
 use Rattle.http_server.specs.declared.response.Response.{Response}
 use Rattle.http_server.specs.Encoding.{final_text}
-use Rattle.http_connection.specs.declared.limits.Refusal.{Refusal}
 use Rattle.http_connection.specs.Texts.{continue_text, refusal_text, opening_text, piece_text}
 use Rattle.http_connection.specs.Turns.{Turn, Admitted, Rejected, Answered, Refused}
 

@@ -1,6 +1,6 @@
 -- The counts that a desk shows add up.
 use Rattle.std.proofs.Common.{◌≡◌, refl, sym, ap, ◌∙◌, subst, ℕ, ◌+◌, ◌<◌, ◌≤◌, arith, List, []}
-use Rattle.std.proofs.Common.{◌∷◌, ◌++◌, length, true, false, true≢false, length-append}
+use Rattle.std.proofs.Common.{◌∷◌, ◌++◌, length, true, true≢false, length-append}
 use Rattle.std.proofs.Common.{length-drop}
 use Rattle.model_span.specs.Spans.{SpanData}
 use Rattle.model_span.specs.Dropped.{Reason, can_drop_batch}

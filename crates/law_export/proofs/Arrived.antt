@@ -1,5 +1,5 @@
 -- What is known of a request that arrives.
-use Rattle.std.proofs.Common.{◌≡◌, ℕ, List, ◌++◌, length, refl, ap, subst, ◌∙◌, inl, inr, arith}
+use Rattle.std.proofs.Common.{◌≡◌, ℕ, List, ◌++◌, refl, ap, subst, ◌∙◌, inl, inr, arith}
 use Rattle.std.proofs.Common.{Option, Some}
 use Rattle.http_wire.specs.declared.limits.HeadLimits.{HeadLimits}
 use Rattle.http_wire.specs.Devices.{HasFailed}

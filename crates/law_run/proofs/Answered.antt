@@ -11,7 +11,6 @@ use Rattle.model_span.specs.Starts.{Ids, StartedSpan}
 use Rattle.model_retry.specs.Retries.{Outcome, Next}
 use Rattle.model_desk.specs.Desks.{Desk, is_due, desk_of}
 use Rattle.model_run.specs.Steps.{Step}
-use Rattle.model_run.specs.History.{Setup}
 use Rattle.model_run.specs.Runs.{Ended, queued, late, not_sampled, already_ended, Answer, started}
 use Rattle.model_run.specs.Runs.{no_randomness, no_span, out_of_memory, done, ended, taken}
 use Rattle.model_run.specs.Runs.{not_taken, encoded, sent, early, replied, nothing, Answered}

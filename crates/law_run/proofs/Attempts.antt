@@ -10,7 +10,7 @@ use Rattle.std.proofs.lemmas.List.Elements.{filter-append}
 use Rattle.std.proofs.lemmas.Bool.{eqb-true, eq-eqb, ltb-false, leb-true, leb-false}
 use Rattle.std.proofs.lemmas.Bool.{false_from_ne_true}
 use Rattle.model_span.specs.Attributes.{last_or}
-use Rattle.model_span.specs.Dropped.{Reason, too_large}
+use Rattle.model_span.specs.Dropped.{too_large}
 use Rattle.model_span.specs.Spans.{SpanData, Call, is_end}
 use Rattle.model_span.specs.Starts.{StartedSpan}
 use Rattle.model_retry.specs.Retries.{Outcome, Next, again, give_up, Fate, fate_of}

@@ -1,11 +1,9 @@
 -- What encodings answer.
-use Rattle.std.proofs.Common.{◌≡◌, ap, subst, ◌∙◌, ℕ, List, [], ◌∷◌, ◌++◌, Some}
-use Rattle.model_span.specs.Dropped.{Reason}
+use Rattle.std.proofs.Common.{ap, subst, ◌∙◌, Some}
 use Rattle.model_desk.specs.Queue.{drops, entries_by}
 use Rattle.model_desk.specs.Queue as desk
 use Rattle.model_desk.proofs.Lists.{gather-more}
-use Rattle.model_run.specs.Runs.{Answer, Answered, encoded, event_by, desk_events}
-use Rattle.model_run.specs.Answers.{RunConfig}
+use Rattle.model_run.specs.Runs.{event_by, desk_events}
 use Rattle.model_run.proofs.More.{events-more}
 use Rattle.law_run.specs.Laws.{OfHistories, OfRuns, EncodedWhereItFits, DroppedUnencoded}
 use Rattle.law_run.specs.Laws.{DroppedBatchIsNamed}

@@ -1,5 +1,5 @@
 -- What is lost, and that it is named.
-use Rattle.std.proofs.Common.{◌≡◌, refl, sym, ap, ◌∙◌, ℕ, ◌+◌, ◌≤◌, arith, List, [], ◌∷◌, ◌++◌, map}
+use Rattle.std.proofs.Common.{◌≡◌, refl, sym, ap, ◌∙◌, arith, List, [], ◌++◌}
 use Rattle.std.proofs.Common.{Bool, true, false, Option, Some, None, option_map}
 use Rattle.std.specs.Prelude.{◌==◌, if◌then◌else◌, option_to_list}
 use Rattle.std.proofs.lemmas.List.{append-nil}
@@ -11,9 +11,7 @@ use Rattle.model_desk.specs.Queue as desk
 use Rattle.model_desk.proofs.Lists.{gather-more}
 use Rattle.law_desk.proofs.Losses.{losses-handed, reasons-apart}
 use Rattle.model_run.specs.Steps.{Step}
-use Rattle.model_run.specs.History.{Setup}
-use Rattle.model_run.specs.Runs.{Answered, event_by, desk_events}
-use Rattle.model_run.specs.Answers.{RunConfig}
+use Rattle.model_run.specs.Runs.{event_by, desk_events}
 use Rattle.model_run.proofs.More.{events-more}
 use Rattle.law_run.specs.Laws.{OfHistories, OfRuns, IsAllowed, lost_by, BatchesAreLost}
 use Rattle.law_run.specs.Laws.{LostWereHanded, LossesAreNamed}

@@ -10,7 +10,7 @@ use Rattle.model_span.specs.Spans.{SpanData}
 use Rattle.model_desk.specs.Queue.{DeskEvent, popped, popped_lost, is_popped, is_popped_lost}
 use Rattle.model_desk.specs.Queue.{ticket_of, taken_count, accepted_spans, batch_sizes, slices}
 use Rattle.model_desk.specs.Queue.{batch_spans, last_spans, last_batch, waiting_spans, gather}
-use Rattle.model_desk.specs.Queue.{entries_by, drops, losses_by, losses, loss_reason, named_as}
+use Rattle.model_desk.specs.Queue.{entries_by, losses_by, loss_reason, named_as}
 use Rattle.model_desk.specs.Queue as desk
 use Rattle.model_desk.specs.Desks.{desk_of}
 use Rattle.model_desk.proofs.Lists.{all-append}

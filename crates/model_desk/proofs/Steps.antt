@@ -1,5 +1,5 @@
 -- One more event: what a desk then shows.
-use Rattle.std.proofs.Common.{◌≡◌, refl, sym, ap, ◌∙◌, subst, ℕ, ◌+◌, ◌-◌, ◌≤◌, min, arith, List}
+use Rattle.std.proofs.Common.{◌≡◌, refl, sym, ap, ◌∙◌, subst, ℕ, ◌+◌, ◌≤◌, min, arith, List}
 use Rattle.std.proofs.Common.{[], ◌∷◌, ◌++◌, length, take, drop, append_assoc, Bool, true, false}
 use Rattle.std.proofs.Common.{cond, ◌||◌, Some, None, length-drop, length-append}
 use Rattle.std.specs.Prelude.{if◌then◌else◌, sum}

@@ -12,7 +12,7 @@ use Rattle.model_message.specs.AnyValue.{AnyValue, none, as_values, as_pairs}
 use Rattle.model_message.specs.Tables
 use Rattle.model_message.specs.Tables.{Shape, text, bytes, bool, uint32, int64, enum, fixed64}
 use Rattle.model_message.specs.Tables.{fixed32, any, message, repeated, Table, end, ◌⦂◌◂◌, ◌▸◌}
-use Rattle.model_message.specs.Tables.{ValueOf, Message, key_value, array_value, key_value_list}
+use Rattle.model_message.specs.Tables.{ValueOf, Message, array_value, key_value_list}
 use Rattle.model_message.specs.Tables.{resource, scope, span, scope_spans, resource_spans, request}
 
 -- ---- payloads

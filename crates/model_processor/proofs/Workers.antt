@@ -21,7 +21,7 @@ use Rattle.model_desk.proofs.Events.{counts-more, fates-more}
 use Rattle.model_processor.specs.Passes.{PassAccount, all_dropped, all_popped, all_popped_lost}
 use Rattle.model_processor.specs.PassClauses.{NamesDrops, NamesLosses}
 use Rattle.model_processor.proofs.PassLists.{range-more}
-use Rattle.model_processor.specs.Worker.{BatchEnd, EndedBatch, OutBatch, WorkerAccount, entries_by}
+use Rattle.model_processor.specs.Worker.{EndedBatch, OutBatch, WorkerAccount, entries_by}
 use Rattle.model_processor.specs.Worker.{fate_in, fates, handed_out_spans, handed_spans}
 use Rattle.model_processor.specs.Worker.{lost_entries_by, numbers, out_number, out_spans}
 use Rattle.model_processor.specs.Worker.{spans_if_settled, spans_with, taken_spans, worker_entries}

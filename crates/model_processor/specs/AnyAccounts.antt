@@ -1,5 +1,5 @@
 -- What the accounts of a batch processor say. (profile)
-use Rattle.std.specs.Prelude.{ℕ, ◌+◌, Bool, true, false, List, [], ◌∷◌, ◌++◌, filter_map, Option}
+use Rattle.std.specs.Prelude.{ℕ, Bool, true, false, List, [], ◌∷◌, ◌++◌, filter_map, Option}
 use Rattle.std.specs.Prelude.{Some, None}
 use Rattle.model_retry.specs.Retries.{Outcome, Fate}
 use Rattle.model_span.specs.Spans.{SpanData}

@@ -1,7 +1,7 @@
 -- Attributes as a program sets them, and which of them are kept. (Common, Attribute Limits; Trace
 -- API, Set Attributes)
 use Rattle.std.specs.Prelude.{◌≡◌, ℕ, ℤ, ◌-◌, ◌^◌, min, List, [], ◌∷◌, map, take, filter, count_by}
-use Rattle.std.specs.Prelude.{length, Bool, true, false, not, ◌&&◌, ◌++◌, if◌then◌else◌, Option}
+use Rattle.std.specs.Prelude.{length, Bool, true, false, not, ◌&&◌, ◌++◌, Option}
 use Rattle.std.specs.Prelude.{Some, None, bytes_eq, chars, encode_utf8_all}
 use Rattle.std.specs.List.{list_any}
 

@@ -1,7 +1,7 @@
 -- The last pair of a name, one pair after the other.
 use Rattle.std.proofs.Common.{◌≡◌, ℕ, ◌+◌, ◌<◌, List, [], ◌∷◌, ◌++◌, length, take, get_or, true}
 use Rattle.std.proofs.Common.{false, Option, Some, None, inl, inr, refl, sym, ap, ◌∙◌, eqb, arith}
-use Rattle.std.specs.Prelude.{Bool, if◌then◌else◌, bytes_eq, is_some, option_map, option_and_then}
+use Rattle.std.specs.Prelude.{if◌then◌else◌, bytes_eq, option_map, option_and_then}
 use Rattle.std.proofs.lemmas.Bool.{cases_Bool, eqb-true}
 use Rattle.std.proofs.lemmas.List.{take_more, map-append}
 use denote.Ref.{Bor}

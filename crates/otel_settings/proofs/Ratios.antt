@@ -1,5 +1,5 @@
 -- Which texts are ratios.
-use Rattle.std.proofs.Common.{◌≡◌, ℕ, ◌≤◌, List, true, false, Option, Some, None, IsTrue, refl}
+use Rattle.std.proofs.Common.{◌≡◌, ℕ, ◌≤◌, List, true, false, Some, None, IsTrue, refl}
 use Rattle.std.specs.Prelude.{Bool, ◌&&◌, if◌then◌else◌, nat_le}
 use Rattle.std.proofs.lemmas.Bool.{le-leb, leb-true}
 use Rattle.otlp_sampler.specs.Decimal.{denominator, is_decimal, numerator}

@@ -2,7 +2,7 @@
 use Rattle.std.proofs.Common.{◌≡◌, ℕ, List, [], ◌∷◌, ◌++◌, ap, sym, ◌∙◌, Bor}
 use Rattle.std.specs.Prelude.{Option, Some, option_map, codes, String, string_bytes}
 use Rattle.std.proofs.lemmas.List.{map-append}
-use Rattle.otel_settings.specs.ResourcePairs.{Pair, pair_view, pairs_view}
+use Rattle.otel_settings.specs.ResourcePairs.{pair_view, pairs_view}
 use Rattle.otel_settings.specs.Resources.{name_pair}
 
 -- A `service.name` pair after the other pairs is what a set service name adds to them.

@@ -1,6 +1,6 @@
 -- The attributes of a resource. (OpenTelemetry Specification, Resource SDK; Environment Variable
 -- Specification, General SDK Configuration)
-use Rattle.std.specs.Prelude.{ℕ, ◌-◌, ◌^◌, List, map, None}
+use Rattle.std.specs.Prelude.{◌-◌, ◌^◌, List, map, None}
 use Rattle.model_span.specs.Attributes.{Attribute, Limits, attributes, text}
 use Rattle.otel_settings.specs.ResourcePairs.{Pair}
 

@@ -1,8 +1,8 @@
 -- Where spans are sent to. (OTLP Specification, OTLP Exporter Configuration, Endpoint URLs for
 -- OTLP/HTTP; RFC 9110, section 4.2.1; RFC 3986, section 3)
 use Rattle.std.specs.Prelude.{ℕ, Bool, true, false, not, ◌&&◌, ◌==◌, List, [], ◌∷◌, ◌++◌, length}
-use Rattle.std.specs.Prelude.{drop, Option, Some, None, is_some, codes, if◌then◌else◌, nat_eq}
-use Rattle.std.specs.Prelude.{option_and_then, option_map, unwrap_or}
+use Rattle.std.specs.Prelude.{drop, Option, Some, None, codes, if◌then◌else◌, nat_eq}
+use Rattle.std.specs.Prelude.{option_and_then, unwrap_or}
 use Rattle.std.specs.Option.{option_or}
 use Rattle.std.specs.List.{list_all, list_any, before_first, after_first, starts_with, ends_with}
 use Rattle.otlp_http.specs.Address.{Address, is_host, is_path}

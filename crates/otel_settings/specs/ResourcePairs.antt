@@ -1,7 +1,7 @@
 -- Resource attributes as a text. (OpenTelemetry Specification, Resource SDK, Specifying resource
 -- information via an environment variable; W3C Baggage, Header content, without properties)
-use Rattle.std.specs.Prelude.{ℕ, ◌+◌, Bool, not, ◌&&◌, ◌==◌, List, map, take, drop, position}
-use Rattle.std.specs.Prelude.{Option, Some, None, if◌then◌else◌, nat_le, option_map, String}
+use Rattle.std.specs.Prelude.{ℕ, Bool, not, ◌&&◌, ◌==◌, List, map}
+use Rattle.std.specs.Prelude.{Option, None, if◌then◌else◌, nat_le, option_map, String}
 use Rattle.std.specs.Prelude.{string_bytes}
 use Rattle.std.specs.List.{list_all, slice_split}
 use Rattle.httparse.specs.Grammar.{is_token, trim_ows}

@@ -1,5 +1,5 @@
 -- Replies after which a connection may carry another request.
-use Rattle.std.proofs.Common.{◌≡◌, ℕ, Bool, List, ◌++◌, map, codes, subst, ap, ◌∙◌, append_assoc}
+use Rattle.std.proofs.Common.{◌≡◌, ℕ, Bool, List, map, codes, subst, ap, ◌∙◌, append_assoc}
 use Rattle.std.proofs.Common.{Option, Result}
 use Rattle.std.specs.List.{flat_map}
 use Rattle.std.specs.Io.KnownBytes.{Consumes}
@@ -16,7 +16,7 @@ use Rattle.http_wire.specs.Fields.{NameAndValue, KeepsFields, retry_after}
 use Rattle.otlp_http.specs.Heads.{fields_of}
 use Rattle.otlp_http.specs.Parses.{HasKeptHead}
 use Rattle.otlp_http.specs.Persistence.{lasts_with, lasts_after}
-use Rattle.otlp_http.specs.Replies.{HttpReply, IsReply, framing_of}
+use Rattle.otlp_http.specs.Replies.{IsReply, framing_of}
 
 -- A head that is kept, and then a body, are a reply, and the connection lasts by that head.
 pub lasting : (limits : HeadLimits) (old mid new : Option (List ℕ))

@@ -1,5 +1,5 @@
 -- The text of a request.
-use Rattle.std.proofs.Common.{◌≡◌, ℕ, ◌+◌, List, [], ◌∷◌, ◌++◌, length, ap, sym, ◌∙◌, codes, arith}
+use Rattle.std.proofs.Common.{◌≡◌, ℕ, ◌+◌, List, [], ◌∷◌, ◌++◌, length, ap, ◌∙◌, codes, arith}
 use Rattle.std.proofs.Common.{append_assoc, append-nil, length-append, ◌≤◌, leb-true, refl, subst}
 use Rattle.std.specs.Prelude.{decimal}
 use Rattle.std.specs.List.{concat}

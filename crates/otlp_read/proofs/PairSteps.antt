@@ -6,7 +6,7 @@ use Rattle.std.proofs.lemmas.List.Elements.{Contains-push}
 use Rattle.model_message.specs.Reading.{Fault, too_deep}
 use Rattle.model_message.specs.Wire.{Field, Payload, len, row}
 use Rattle.model_message.specs.Tables
-use Rattle.model_message.specs.Tables.{Shape, Table, end, ◌⦂◌◂◌, text, any}
+use Rattle.model_message.specs.Tables.{end, ◌⦂◌◂◌, text, any}
 use Rattle.model_message.specs.Messages.{PayloadReading, payloads, joined_rows, last_bytes, read}
 use Rattle.model_message.specs.Messages.{read_table, value}
 use Rattle.model_message.specs.AnyValue.{AnyValue}

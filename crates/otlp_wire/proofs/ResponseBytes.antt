@@ -7,7 +7,7 @@ use Rattle.std.specs.Int.{w64, cast_unsigned}
 use Rattle.model_message.specs.Reading.{Reading, Reads, done}
 use Rattle.model_message.specs.Wire.{Field, varint}
 use Rattle.model_message.specs.Tables
-use Rattle.model_message.specs.Tables.{Message, text, int64, message, ◌▸◌}
+use Rattle.model_message.specs.Tables.{Message, ◌▸◌}
 use Rattle.model_message.specs.Messages.{meaning, wire_type}
 use Rattle.model_message.specs.Canon.{shortest, payload_bytes, field_bytes, bytes_field}
 use Rattle.model_message.specs.Canon.{number_field, unless_empty, unless_no_fields, row_bytes}

@@ -6,7 +6,7 @@ use Rattle.std.proofs.lemmas.List.Elements.{Contains-append_left, Contains-appen
 use Rattle.model_message.specs.Reading.{Reading, Fault}
 use Rattle.model_message.specs.Wire.{Field, put, len, row}
 use Rattle.model_message.specs.Tables
-use Rattle.model_message.specs.Tables.{message, int64, text}
+use Rattle.model_message.specs.Tables.{message}
 use Rattle.model_message.specs.Messages.{payloads, joined_rows}
 use Rattle.otlp_wire.specs.Response.{Counts, partial_row}
 use Rattle.otlp_wire.specs.declared.response.PartialFields.{PartialFields}

@@ -1,6 +1,5 @@
 -- Where the request of the examples goes, and what it carries.
-use Rattle.std.specs.Prelude.{ℕ, List, [], ◌∷◌, codes, false, None, Option, Result}
-use Rattle.std.specs.Prelude.{Some, Ok, Err}
+use Rattle.std.specs.Prelude.{ℕ, List, [], ◌∷◌, codes, false, None, Result}
 use Rattle.http_wire.specs.declared.fault.HttpFault.{HttpFault}
 use Rattle.model_span.specs.Spans.{Context}
 use Rattle.otlp_http.specs.Address.{Address}

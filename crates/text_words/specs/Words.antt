@@ -1,6 +1,6 @@
 -- What the words of a line mean: a word is a list of bytes without a space.
 use Rattle.std.specs.Prelude.{◌≡◌, ◌≢◌, ◌⊎◌, ◌↔◌, ◌<◌, ◌++◌, ℕ, ◌+◌, ◌-◌, ◌*◌, ◌^◌, ◌==◌, ◌&&◌}
-use Rattle.std.specs.Prelude.{nat_lt, ℤ, pos, neg_ℤ, List, [], ◌∷◌, length, take, drop, position}
+use Rattle.std.specs.Prelude.{nat_lt, ℤ, pos, neg_ℤ, List, [], ◌∷◌, length}
 use Rattle.std.specs.Prelude.{Bool, false, if◌then◌else◌, Option, Some, None, option_map, bytes_eq}
 use Rattle.std.specs.Prelude.{codes, Result, Ok, Err}
 use Rattle.std.specs.Int.{w64, from_be_bytes}

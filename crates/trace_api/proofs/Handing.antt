@@ -1,14 +1,14 @@
 -- The end of a span goes to a pass.
-use Rattle.std.proofs.Common.{◌≡◌, refl, sym, ap, subst, ◌∙◌, ℕ, List, [], ◌∷◌, ◌++◌, Bool, true}
-use Rattle.std.proofs.Common.{false, true≢false, ◌&&◌, ◌||◌, IsTrue, Option, Some, None}
+use Rattle.std.proofs.Common.{◌≡◌, refl, ap, subst, ◌∙◌, ℕ, List, [], ◌∷◌, ◌++◌, Bool, true}
+use Rattle.std.proofs.Common.{false, Option, Some, None}
 use Rattle.std.specs.List.{list_any}
 use Rattle.std.proofs.lemmas.List.Folds.{list_any-append}
 use Rattle.model_span.specs.Identifiers.{has_sampled_flag}
 use Rattle.model_span.specs.Sampling.{is_recording}
 use Rattle.model_span.specs.Spans.{Call, Resource, Scope, Span, SpanData, SpanRecord, Ends, end}
 use Rattle.model_span.specs.Spans.{is_end, span}
-use Rattle.model_span.specs.Starts.{HeldSpan, SpanState, StartedSpan, exported_span, held_span}
-use Rattle.model_span.specs.Starts.{is_recording_state, recording, not_recording, ended}
+use Rattle.model_span.specs.Starts.{HeldSpan, StartedSpan, exported_span, held_span}
+use Rattle.model_span.specs.Starts.{recording, not_recording, ended}
 use Rattle.model_span.specs.Starts.{state_after}
 use Rattle.model_span.proofs.Live.{all-live}
 use Rattle.trace_api.specs.ExtCalls.{DoesAll}
@@ -16,7 +16,7 @@ use Rattle.trace_api.specs.Calls.{Asks, IsRecordingWith, Says, goes_to_pass}
 use Rattle.trace_api.specs.declared.pass.Ended.{Ended}
 use Rattle.trace_api.specs.declared.pass.Ended.TheVariants as ends
 use Rattle.trace_api.specs.Endings.{Ending, ending_calls}
-use Rattle.trace_api.specs.Ends.{EndsAs, Handed, HandedBy}
+use Rattle.trace_api.specs.Ends.{EndsAs, Handed}
 
 -- None of the calls that describe the outcome of a request is an end.
 pub none-ends : (e : Ending) → list_any is_end (ending_calls e) ≡ false

@@ -1,5 +1,5 @@
 -- Calls on a span, one after the other.
-use Rattle.std.proofs.Common.{◌≡◌, refl, ap, ◌∙◌, sym, List, [], ◌∷◌, ◌++◌, append_assoc, Result}
+use Rattle.std.proofs.Common.{refl, ap, ◌∙◌, sym, List, [], ◌∷◌, ◌++◌, append_assoc, Result}
 use Rattle.std.proofs.Common.{Ok, Err, OnOk}
 use Rattle.std.proofs.lemmas.List.{append-nil}
 use Rattle.model_span.specs.Spans.{Call}

@@ -1,7 +1,7 @@
 -- A start of a span with all that it begins with. (Trace API, Span Creation)
 use Rattle.std.specs.Prelude.{◌≡◌, ℕ, List, ◌++◌, map, Option, Some, None, Result, Ok, Err}
 use Rattle.model_span.specs.Attributes.{Attribute}
-use Rattle.model_span.specs.Spans.{Call, Context, Kind, set_attribute, add_link}
+use Rattle.model_span.specs.Spans.{Call, Context, set_attribute, add_link}
 use Rattle.model_span.specs.Starts.{HeldSpan, StartRequest, StartedSpan, held_span, start_request}
 use Rattle.otlp_ids.specs.SpanContext.{context_view, parent_view}
 use Rattle.otlp_span.specs.Parts.{kind_view}

@@ -1,8 +1,8 @@
 -- The key and the value of a member of `tracestate`. (W3C Trace Context, Tracestate Header Field
 -- Values)
-use Rattle.std.specs.Prelude.{ℕ, ◌+◌, ◌-◌, ◌==◌, ◌&&◌, ◌||◌, not, nat_le, nat_lt, Bool, false}
-use Rattle.std.specs.Prelude.{List, [], ◌∷◌, length, take, drop, position, slice_index}
-use Rattle.std.specs.Prelude.{Option, Some, None, option_map}
+use Rattle.std.specs.Prelude.{ℕ, ◌-◌, ◌==◌, ◌&&◌, ◌||◌, not, nat_le, nat_lt, Bool, false}
+use Rattle.std.specs.Prelude.{List, [], ◌∷◌, length, slice_index}
+use Rattle.std.specs.Prelude.{Option, Some, None}
 use Rattle.std.specs.List.{list_all}
 use Rattle.text_words.specs.Parts.{around_first}
 

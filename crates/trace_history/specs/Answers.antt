@@ -2,7 +2,6 @@
 use Rattle.std.specs.Prelude.{List, [], ◌∷◌}
 use Rattle.retry_core.specs.Retries.{outcome_view, next_view}
 use Rattle.otlp_span.specs.Dropped.{reason_view}
-use Rattle.model_run.specs.Steps.{Step}
 use Rattle.model_run.specs.Runs as model
 use Rattle.model_run.specs.Runs.{Answered}
 use Rattle.trace_api.specs.declared.pass.Ended.{Ended}

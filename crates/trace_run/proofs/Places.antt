@@ -1,5 +1,5 @@
 -- The place after one more step.
-use Rattle.std.proofs.Common.{◌≡◌, refl, sym, ap, ◌∙◌, ℕ, ◌+◌, ◌≤◌, arith, List, [], ◌∷◌, ◌++◌}
+use Rattle.std.proofs.Common.{◌≡◌, refl, sym, ap, ◌∙◌, ◌+◌, ◌≤◌, arith, List, [], ◌∷◌, ◌++◌}
 use Rattle.std.proofs.Common.{length, length-append, append-nil, Bool, true, false, cond, Option}
 use Rattle.std.proofs.Common.{Some, None, is_some}
 use Rattle.std.specs.Prelude.{filter_map}

@@ -1,12 +1,12 @@
 -- What a run of a script is, in the model.
-use Rattle.std.proofs.Common.{◌≡◌, refl, sym, ap, subst, ◌∙◌, ℕ, suc, List, [], ◌∷◌, ◌++◌, length}
-use Rattle.std.proofs.Common.{map, Option, Some, None}
+use Rattle.std.proofs.Common.{◌≡◌, refl, sym, ap, subst, ◌∙◌, ℕ, List, [], ◌∷◌, length}
+use Rattle.std.proofs.Common.{map, Some}
 use Rattle.std.specs.Prelude.{unwrap_or}
 use Rattle.model_run.specs.Answers.{RunConfig, AreAnswers, desk_after}
 use Rattle.model_run.specs.Runs.{Answered}
 use Rattle.model_desk.specs.Desks.{Desk}
 use Rattle.span_exporter.specs.Handed.{Handed}
-use Rattle.trace_history.specs.Answers.{answer_view, history_view}
+use Rattle.trace_history.specs.Answers.{history_view}
 use Rattle.trace_history.specs.Steps.{step_view}
 use Rattle.trace_history.specs.declared.answer.Answer.{Answer}
 use Rattle.trace_history.specs.declared.step.Step.{Step as CodeStep}

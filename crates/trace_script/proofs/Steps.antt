@@ -1,10 +1,10 @@
 -- What a step of a script makes of its spans, and of those that are kept for its body.
-use Rattle.std.proofs.Common.{◌≡◌, refl, sym, ap, ◌∙◌, ℕ, zero, suc, ◌+◌, ◌<◌, ◌≤◌, ◌^◌, ◌==◌}
+use Rattle.std.proofs.Common.{◌≡◌, refl, sym, ap, ◌∙◌, ℕ, zero, suc, ◌+◌, ◌<◌, ◌≤◌, ◌^◌}
 use Rattle.std.proofs.Common.{nat_lt, length, List, [], ◌∷◌, ◌++◌, map, filter, drop, append_assoc}
 use Rattle.std.proofs.Common.{cond, Bool, true, false, not, ◌&&◌, Option, Some, None, IfSome}
 use Rattle.std.proofs.Common.{slice_get, arith, add-zero, ◌⊎◌, filter_map, get_or, ⊎_elim, inl, inr}
 use mathlib.Core.Path.{fun_ext}
-use Rattle.std.specs.List.{list_any, take_while, cons_option, AllByRecursion}
+use Rattle.std.specs.List.{list_any, take_while, cons_option}
 use Rattle.std.proofs.lemmas.List.Sums.{take_while-cons}
 use Rattle.std.specs.Option.{option_to_list, option_and_then}
 use Rattle.std.proofs.lemmas.List.{append-nil, get_or-drop}
@@ -16,7 +16,7 @@ use Rattle.rand_core.proofs.StepsLemmas.{next_u64-stream_of}
 use Rattle.std.proofs.Math.Nat.{min-eq_left}
 use Rattle.std.proofs.Math.Seq.{drop-nil, drop-cons}
 use Rattle.model_span.specs.Sampling.{is_sampled}
-use Rattle.model_span.specs.Spans.{Call, Scope, Kind, SpanData, end, end_of, is_end, with_ticket}
+use Rattle.model_span.specs.Spans.{Call, Kind, SpanData, end, end_of, is_end, with_ticket}
 use Rattle.model_span.specs.Starts.{StartedSpan, exported_span}
 use Rattle.model_run.specs.Steps as program
 use Rattle.model_run.specs.Steps.{Parent, Step, is_shutdown}
@@ -30,7 +30,7 @@ use Rattle.span_script.specs.Parsed.{Means}
 use Rattle.span_script.specs.declared.script.Script.{Script as CodeScript}
 use Rattle.otlp_ids.specs.WordStream.{after_words, words_of}
 use Rattle.trace_run.specs.Table.{TableWith, TakesStep, IsTable, span_numbered, calls_so_far}
-use Rattle.trace_run.specs.Ends.{EndsAs, EndsBy, AnswersAlone, AnswersPass}
+use Rattle.trace_run.specs.Ends.{EndsAs, EndsBy}
 use Rattle.trace_api.specs.Pass.{Body, Admits, counted_spans, with_span}
 use Rattle.trace_api.specs.declared.pass.Ended.{Ended as CodeEnded}
 use Rattle.trace_history.specs.Steps.{step_view}

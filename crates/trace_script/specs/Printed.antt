@@ -1,6 +1,6 @@
 -- What the program prints.
 use Rattle.std.specs.Prelude.{◌≡◌, ◌≤◌, ◌⊎◌, ℕ, ◌+◌, List, [], ◌∷◌, ◌++◌, length, map, take, Bool}
-use Rattle.std.specs.Prelude.{true, false, Option, Some, Ok, Err, IfSome, unwrap_or}
+use Rattle.std.specs.Prelude.{true, false, Option, Some, Ok, Err, IfSome}
 use Rattle.std.specs.Io.KnownBytes.{Appends, Keeps}
 use Rattle.hex.specs.Hex.{encode_lower}
 use Rattle.model_message.specs.Reading.{Reads}

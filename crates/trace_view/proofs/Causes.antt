@@ -1,5 +1,5 @@
 -- Why words ask for no run.
-use Rattle.std.proofs.Common.{◌≡◌, List, inl, inr}
+use Rattle.std.proofs.Common.{List, inl, inr}
 use Rattle.std.specs.Prelude.{Err, IfErr, Ok, Result, String}
 use Rattle.program_args.specs.Faults.{IsMistake}
 use Rattle.program_args.specs.Words as given

@@ -1,5 +1,5 @@
 -- A request that was answered within its span.
-use Rattle.std.proofs.Common.{◌≡◌, refl, sym, ap, subst, ◌∙◌, ℕ, ◌+◌, List, [], ◌∷◌, map, Bool}
+use Rattle.std.proofs.Common.{◌≡◌, refl, sym, ap, subst, ℕ, ◌+◌, List, [], ◌∷◌, map, Bool}
 use Rattle.std.proofs.Common.{true, false, if◌then◌else◌, Option, Some, None, IfSome, option_map}
 use Rattle.std.proofs.Common.{◌⊎◌, inl, inr}
 use Rattle.std.specs.List.{list_any}

@@ -1,10 +1,10 @@
 -- A span that starts with attributes and no links.
-use Rattle.std.proofs.Common.{◌≡◌, ap, ◌∙◌, ℕ, List, [], ◌++◌, map, Option, Some, None, Result, Ok}
+use Rattle.std.proofs.Common.{ap, ◌∙◌, ℕ, List, [], ◌++◌, map, Option, Result, Ok}
 use Rattle.std.proofs.Common.{Err, IfOk}
 use Rattle.std.proofs.lemmas.List.{append-nil}
 use Rattle.model_span.specs.Attributes.{Attribute}
 use Rattle.model_span.specs.Sampling.{valid_parent}
-use Rattle.model_span.specs.Spans.{Call, Context, server, set_attribute}
+use Rattle.model_span.specs.Spans.{Context, server, set_attribute}
 use Rattle.model_span.specs.Starts.{HeldSpan, Tracer, held_span, ids_words, start_request}
 use Rattle.model_span.specs.Starts.{started_span}
 use Rattle.otlp_ids.specs.WordStream.{Spends, words_of}

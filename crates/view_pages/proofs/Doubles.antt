@@ -1,6 +1,6 @@
 -- No tag begins in the text of a double.
 use Rattle.std.proofs.Common.{◌≡◌, refl, ℕ, zero, suc, ◌-◌, ◌*◌, ◌/◌, ◌%◌, ◌^◌, ◌==◌, Bool, true}
-use Rattle.std.proofs.Common.{cond, List, ◌++◌, codes, Option, Some, None}
+use Rattle.std.proofs.Common.{◌++◌, codes, Some, None}
 use Rattle.std.specs.Prelude.{decimal, nat_lt}
 use Rattle.page_text.specs.Doubles.{decimal_text, digits_of, divided_text, page_text}
 use Rattle.page_text.specs.Doubles.{exponent_of, fraction_of, is_negative, large_text}

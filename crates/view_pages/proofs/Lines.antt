@@ -1,5 +1,5 @@
 -- The lines of rows, and the rows of a page that they make.
-use Rattle.std.proofs.Common.{◌≡◌, refl, sym, ap, ◌∙◌, ℕ, Option, Some, None, List, [], ◌∷◌, map}
+use Rattle.std.proofs.Common.{◌≡◌, refl, sym, ap, ◌∙◌, ℕ, Option, List, [], ◌∷◌, map}
 use Rattle.std.specs.Prelude.{option_map, slice_get}
 use Rattle.std.specs.Arc.{arc_value}
 use Rattle.std.specs.declared.sync.Arc.{Arc}
@@ -7,12 +7,11 @@ use Rattle.std.specs.Borrow.{Bor}
 use Rattle.std.proofs.lemmas.Option.{slice_get-map}
 use Rattle.trace_tree.specs.declared.span.Row.{Row}
 use Rattle.trace_store.specs.declared.span.ViewSpan.{ViewSpan}
-use Rattle.view_pages.specs.Html.{Html, each, ◌▹◌}
+use Rattle.view_pages.specs.Html.{each, ◌▹◌}
 use Rattle.view_pages.specs.Lines.{colour_for, line_for, mark_for}
 use Rattle.view_pages.specs.Pages.{AreLent}
-use Rattle.view_pages.specs.Pieces.{line_html, line_row, lines_html}
-use Rattle.view_pages.specs.Rows.{page_row, page_rows, row_html, span_rest}
-use Rattle.view_pages.specs.Spans.{frame_of}
+use Rattle.view_pages.specs.Pieces.{line_html, lines_html}
+use Rattle.view_pages.specs.Rows.{page_row, row_html, span_rest}
 use Rattle.view_pages.specs.declared.line.Line.{Line}
 use Rattle.view_pages.specs.declared.repeat.Mark.{Mark}
 use Rattle.view_pages.specs.declared.times.Frame.{Frame}

@@ -1,6 +1,6 @@
 -- What a page that is written in pieces still writes.
-use Rattle.std.proofs.Common.{◌≡◌, refl, sym, ap, subst, ◌∙◌, ℕ, ◌+◌, ◌<◌, ◌^◌, List, [], ◌∷◌, ◌++◌}
-use Rattle.std.proofs.Common.{length, length-append, map, append_assoc, append-nil, arith}
+use Rattle.std.proofs.Common.{◌≡◌, sym, ap, subst, ◌∙◌, ℕ, ◌+◌, ◌<◌, ◌^◌, List, ◌++◌}
+use Rattle.std.proofs.Common.{length, length-append, map, append_assoc, arith}
 use Rattle.std.specs.Arc.{arc_value}
 use Rattle.std.specs.declared.sync.Arc.{Arc}
 use Rattle.std.specs.Borrow.{Bor}
@@ -8,13 +8,13 @@ use Rattle.std.proofs.lemmas.List.{length-map}
 use Rattle.trace_tree.specs.Order.{ArePlaces}
 use Rattle.trace_tree.specs.declared.span.Row.{Row}
 use Rattle.trace_store.specs.declared.span.ViewSpan.{ViewSpan}
-use Rattle.view_pages.specs.Html.{Html, each, html_bytes, ◌▹◌}
+use Rattle.view_pages.specs.Html.{Html, html_bytes, ◌▹◌}
 use Rattle.view_pages.specs.Lines.{line_for}
 use Rattle.view_pages.specs.Pages.{AreLent, DrawsPage, end_html, head_html, start_html, title_html}
 use Rattle.view_pages.specs.Pages.{trace_html}
-use Rattle.view_pages.specs.Pieces.{IsPlan, line_html, lines_html}
+use Rattle.view_pages.specs.Pieces.{IsPlan, lines_html}
 use Rattle.view_pages.specs.Reading.{places_in}
-use Rattle.view_pages.specs.Rows.{PageRow, page_row, row_html}
+use Rattle.view_pages.specs.Rows.{PageRow, row_html}
 use Rattle.view_pages.specs.Spans.{frame_of}
 use Rattle.view_pages.specs.declared.line.Line.{Line}
 use Rattle.view_pages.specs.declared.times.Frame.{Frame}

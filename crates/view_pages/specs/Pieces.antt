@@ -1,5 +1,5 @@
 -- What a page that is written in pieces still writes.
-use Rattle.std.specs.Prelude.{◌≡◌, ℕ, Bool, true, false, Option, option_map, List, map, drop}
+use Rattle.std.specs.Prelude.{◌≡◌, Bool, true, false, option_map, List, map, drop}
 use Rattle.std.specs.Prelude.{length, slice_get}
 use Rattle.std.specs.Arc.{arc_value}
 use Rattle.std.specs.Borrow.{Bor}

@@ -1,6 +1,6 @@
 -- What becomes of a request to receive spans. (OTLP Specification, OTLP/HTTP Request and OTLP/HTTP
 -- Response)
-use Rattle.std.specs.Prelude.{◌≡◌, ◌≢◌, ℕ, nat_lt, if◌then◌else◌, All, List, Option, Some, None}
+use Rattle.std.specs.Prelude.{◌≡◌, ℕ, nat_lt, if◌then◌else◌, All, List, Option, Some, None}
 use Rattle.std.specs.List.Sorted.{IsPermutation, IsStrictlyIncreasing}
 use Rattle.std.specs.declared.sync.Arc.{Arc}
 use Rattle.http.specs.Request.{body_of, head_of}

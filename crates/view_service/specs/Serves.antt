@@ -1,5 +1,5 @@
 -- What the service does for a connection.
-use Rattle.std.specs.Prelude.{◌≡◌, ◌≢◌, ℕ, ◌==◌, ◌||◌, true, false, not, if◌then◌else◌, List}
+use Rattle.std.specs.Prelude.{◌≡◌, ℕ, ◌==◌, ◌||◌, true, false, not, if◌then◌else◌, List}
 use Rattle.std.specs.Prelude.{codes, bytes_eq, nat_lt, Option, Some, None, unwrap_or}
 use Rattle.http.specs.Request.{head_of}
 use Rattle.http.specs.declared.request.Parts.{Parts as Head}

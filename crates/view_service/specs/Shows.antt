@@ -1,7 +1,7 @@
 -- How what is kept is shown: by the route of a request, its method and whether the trace that it
 -- names is kept. (RFC 9110, sections 9.3.1, 9.3.2, 15.5.5 and 15.5.6; which fields: profile)
 use Rattle.std.specs.Prelude.{◌≡◌, ◌≢◌, ℕ, Bool, true, false, if◌then◌else◌, List, [], codes}
-use Rattle.std.specs.Prelude.{bytes_eq, Option, Some, None, ⊤}
+use Rattle.std.specs.Prelude.{bytes_eq, Option, Some, None}
 use Rattle.http.specs.declared.request.Parts.{Parts as Head}
 use Rattle.http_server.specs.Response.{IsResponse}
 use Rattle.http_server.specs.declared.response.Response.{Response}

@@ -1,7 +1,7 @@
 use Rattle.std.proofs.Common.{◌≡◌, ◌∙◌, sym, ap, ap₂, subst, refl, rules, true, map, string_bytes}
 use Rattle.std.proofs.Common.{codes, List}
 use Rattle.clap.specs.Words.{App, HasKind, HasMatchesOf, Text, app_of, fault_of, is_simple}
-use Rattle.clap.specs.Words.{is_simple_and_free, matches_of, one_of, one_text, rows_of, found_of}
+use Rattle.clap.specs.Words.{is_simple_and_free, one_of, one_text, found_of}
 use Rattle.clap.specs.Words.{rule_of, with_rule}
 use Rattle.clap.specs.Simple.{app_of_fields}
 use Rattle.clap.proofs.OnLiterals.{clap_on_literals}

@@ -1,4 +1,4 @@
-use Rattle.std.proofs.Common.{◌≡◌, map, string_bytes}
+use Rattle.std.proofs.Common.{string_bytes}
 use Rattle.trace_script.proofs.Read.{if-ok}
 use Rattle.trace_script.proofs.Runs.{run-is}
 use Rattle.trace_script.proofs.Steps.{words-are}

@@ -1,5 +1,5 @@
 use Rattle.std.proofs.Common.{◌∙◌, ◌+◌, ◌-◌, ◌<◌, ◌≤◌, ap, arith, subst, sym}
-use Rattle.view_pages.specs.Dates.{days_in_month, month_from}
+use Rattle.view_pages.specs.Dates.{month_from}
 use Rattle.view_pages.proofs.Dates.{month_here, month_last, month_later}
 use Rattle.view_pages.proofs.date.month_of.Goals as goal
 

@@ -1,4 +1,3 @@
-use Rattle.std.proofs.Common.{ap, ◌∙◌}
 use Rattle.view_pages.proofs.Parts.{after, same}
 use Rattle.view_pages.specs.Dates.{date_html, moment_html, month_of}
 use Rattle.view_pages.proofs.date.push_moment.Goals as goal

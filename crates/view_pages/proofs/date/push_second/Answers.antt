@@ -1,4 +1,3 @@
-use Rattle.std.proofs.Common.{ap, ◌∙◌}
 use Rattle.view_pages.proofs.Parts.{after, same}
 use Rattle.view_pages.specs.Dates.{date_html, month_of, second_html}
 use Rattle.view_pages.proofs.date.push_second.Goals as goal

@@ -1,5 +1,5 @@
 use Rattle.std.proofs.Common.{◌∙◌, ◌+◌, ◌-◌, ◌<◌, ◌≤◌, ap, arith, subst, sym}
-use Rattle.view_pages.specs.Dates.{days_in_year, year_from}
+use Rattle.view_pages.specs.Dates.{year_from}
 use Rattle.view_pages.proofs.Dates.{year_here, year_last, year_later}
 use Rattle.view_pages.proofs.date.year_of.Goals as goal
 

@@ -1,5 +1,5 @@
 use Rattle.std.proofs.Common.{◌∙◌, length, string_bytes}
-use Rattle.view_pages.specs.Pieces.{line_html, line_row}
+use Rattle.view_pages.specs.Pieces.{line_html}
 use Rattle.view_pages.proofs.Each.{each_step}
 use Rattle.view_pages.proofs.Planned.{longer, row_some}
 use Rattle.view_pages.proofs.pieces.push_lines.Goals as goal

@@ -1,4 +1,4 @@
-use Rattle.std.proofs.Common.{rules, ◌≡◌, sym, subst}
+use Rattle.std.proofs.Common.{rules, sym, subst}
 use Rattle.view_service.specs.Routes.{AreTraceDigits}
 use Rattle.view_service.proofs.Strips.{left_between}
 use Rattle.view_service.proofs.route.trace_between.Goals as goal

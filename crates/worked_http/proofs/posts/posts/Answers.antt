@@ -1,7 +1,6 @@
 use Rattle.std.proofs.Common.{[], refl, arith, codes}
 use Rattle.httparse.specs.Grammar.{lf, RequestHead}
 use Rattle.httparse.proofs.OnLiterals.{httparse_on_literals}
-use Rattle.worked_http.specs.Replied.{usual}
 use Rattle.worked_http.proofs.Heads.{field}
 use Rattle.worked_http.proofs.RequestHeads.{one_field, posted, put}
 use Rattle.worked_http.proofs.posts.posts.Goals as goal

@@ -1,7 +1,6 @@
-use Rattle.std.proofs.Common.{subst, sym, ap, refl, ◌∙◌}
+use Rattle.std.proofs.Common.{subst, sym, ap, ◌∙◌}
 use Rattle.model_desk.specs.Desks.{SettlesSpans}
 use Rattle.model_desk.specs.Queue.{lost_names}
-use Rattle.retry_core.specs.Retries.{fate_view}
 use Rattle.batch_desk.proofs.desk.Desk.settle.Goals as goal
 
 pub returns-clause-history : goal.returns-clause-history

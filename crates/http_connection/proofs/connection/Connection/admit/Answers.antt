@@ -1,4 +1,4 @@
-use Rattle.std.proofs.Common.{[], List, ℕ, ap, refl, sym, append-nil, inl, inr}
+use Rattle.std.proofs.Common.{[], refl, sym, append-nil, inl, inr}
 use Rattle.http.specs.Request.{head_of}
 use Rattle.http_connection.specs.Connections.{place_at}
 use Rattle.http_connection.specs.Texts.{continue_text}

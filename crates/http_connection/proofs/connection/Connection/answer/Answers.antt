@@ -5,7 +5,7 @@ use Rattle.http1.specs.Server.{is_head}
 use Rattle.http_server.specs.Encoding.{final_text}
 use Rattle.http_connection.specs.Connections.{pending_of, place_at, rank}
 use Rattle.http_connection.specs.Outputs.{waiting}
-use Rattle.http_connection.specs.Runs.{Takes, asks_head, place_after}
+use Rattle.http_connection.specs.Runs.{Takes, asks_head}
 use Rattle.http_connection.specs.Texts.{opening_text}
 use Rattle.http_connection.proofs.RunLemmas.{answered_run, work_falls}
 use Rattle.http_connection.proofs.connection.Connection.answer.Goals as goal

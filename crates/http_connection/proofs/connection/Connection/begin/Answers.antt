@@ -1,4 +1,4 @@
-use Rattle.std.proofs.Common.{◌≡◌, ℕ, drop, length, ap, arith, length-drop}
+use Rattle.std.proofs.Common.{◌≡◌, drop, length, ap, arith, length-drop}
 use Rattle.http.specs.Request.{head_of}
 use Rattle.http_connection.specs.Connections.{place_of}
 use Rattle.http_connection.proofs.RunLemmas.{head_is_open}

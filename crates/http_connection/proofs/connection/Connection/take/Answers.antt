@@ -1,4 +1,4 @@
-use Rattle.std.proofs.Common.{slice_range, ap, sym, ◌∙◌}
+use Rattle.std.proofs.Common.{slice_range, ap, ◌∙◌}
 use Rattle.http.specs.Request.{head_of}
 use Rattle.http_connection.specs.Connections.{place_at}
 use Rattle.http_connection.specs.Outputs.{waiting}

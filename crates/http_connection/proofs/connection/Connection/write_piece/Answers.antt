@@ -1,4 +1,4 @@
-use Rattle.std.proofs.Common.{◌≡◌, ℕ, List, ◌++◌, Ok, ap, inl, inr, ◌∙◌}
+use Rattle.std.proofs.Common.{◌≡◌, ◌++◌, Ok, ap, inl, inr, ◌∙◌}
 use Rattle.http.specs.Request.{head_of}
 use Rattle.http_connection.specs.Connections.{pending_of, place_at}
 use Rattle.http_connection.specs.Texts.{piece_text}

@@ -1,7 +1,7 @@
 use Rattle.std.proofs.Common.{◌≡◌, refl, sym, subst, Err, IfErr, List, ◌∷◌, ◌++◌, arith}
 use Rattle.model_message.specs.Wire.{Field}
 use Rattle.model_message.specs.Tables
-use Rattle.model_message.specs.Tables.{message, repeated, text, bytes, uint32, enum, fixed64}
+use Rattle.model_message.specs.Tables.{message, repeated, text, uint32, fixed64}
 use Rattle.model_message.specs.Messages.{value, max_depth, read_table}
 use Rattle.otlp_wire.specs.Fields.{field_of}
 use Rattle.otlp_wire.specs.Faults.{NamesOne}

@@ -1,6 +1,6 @@
 use Rattle.std.proofs.Common.{◌≡◌, sym, subst, Err, IfErr, arith}
 use Rattle.model_message.specs.Tables
-use Rattle.model_message.specs.Tables.{message, repeated, text, bytes, uint32, enum, fixed64}
+use Rattle.model_message.specs.Tables.{message, repeated, text, bytes, uint32}
 use Rattle.model_message.specs.Tables.{fixed32, end, ◌⦂◌◂◌}
 use Rattle.model_message.specs.Messages.{value, max_depth}
 use Rattle.otlp_wire.specs.Faults.{NamesOne}

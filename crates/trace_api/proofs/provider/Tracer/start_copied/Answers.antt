@@ -1,5 +1,5 @@
-use Rattle.std.proofs.Common.{◌≡◌, ◌∙◌, refl, sym, ap, inl, true, string_bytes}
-use Rattle.model_span.specs.Sampling.{is_recording, valid_parent}
+use Rattle.std.proofs.Common.{◌≡◌, ◌∙◌, sym, ap, inl, true, string_bytes}
+use Rattle.model_span.specs.Sampling.{is_recording}
 use Rattle.model_span.specs.Starts.{Tracer, StartRequest, decision_of, start_request}
 use Rattle.otlp_ids.specs.SpanContext.{parent_view}
 use Rattle.otlp_span.specs.Parts.{kind_view}

@@ -1,4 +1,3 @@
-use Rattle.std.proofs.Common.{refl}
 use Rattle.otlp_ids.specs.SpanContext.{context_view}
 use Rattle.trace_api.proofs.Read.{on-ok}
 use Rattle.trace_api.proofs.Held.{does-recorded, does-nothing, not-recorded}

@@ -1,7 +1,6 @@
-use Rattle.std.proofs.Common.{rules, ◌≡◌, arith, codes, subst, List}
+use Rattle.std.proofs.Common.{rules, ◌≡◌, arith, codes, subst}
 use Rattle.std.specs.Prelude.{IfErr}
 use Rattle.std.proofs.lemmas.Grind.{common_steps}
-use Rattle.clap.specs.Words.{Text}
 use Rattle.program_args.specs.Words as given
 use Rattle.program_args.specs.Words.{texts_given, texts_of}
 use Rattle.trace_view.specs.Command.{IsNoAddress, command}

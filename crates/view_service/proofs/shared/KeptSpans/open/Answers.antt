@@ -1,4 +1,4 @@
-use Rattle.std.proofs.Common.{◌≡◌, ◌∙◌, List, [], ◌∷◌, ◌++◌, ℕ, sum, refl, sym, ap}
+use Rattle.std.proofs.Common.{◌≡◌, ◌∙◌, sum, sym}
 use Rattle.view_service.proofs.Sums.{no_sum}
 use Rattle.view_service.proofs.shared.KeptSpans.open.Goals as goal
 
