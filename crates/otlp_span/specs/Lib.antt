@@ -5,3 +5,4 @@ pub mod Dropped
 pub mod Slips
 pub mod SlipFalls
 pub mod Body
+pub mod Resources

@@ -10,6 +10,7 @@ mod pairs;
 mod parts;
 mod reason;
 mod record;
+mod resource;
 mod slip;
 
 pub use calls::replay;
@@ -17,4 +18,5 @@ pub use data::{SpanData, SpanRemains};
 pub use parts::{Event, Kind, Link, Open, Resource, Scope, SpanCall, SpanLimits, Status};
 pub use reason::Reason;
 pub use record::SpanRecord;
+pub use resource::VERSION;
 pub use slip::{Entries, Entry, Slip};

@@ -62,7 +62,7 @@ fn set_text<A: Allocator + Copy>(
 }
 
 /// Sets pairs one after the other.
-fn set_all<A: Allocator>(
+pub(crate) fn set_all<A: Allocator>(
     list: &mut AttributeList<A>,
     pairs: Vec<(String<A>, Value<A>), A>,
 ) -> Result<(), OutOfMemory>

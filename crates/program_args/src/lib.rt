@@ -7,5 +7,6 @@ mod line;
 mod read;
 
 pub use fault::{ArgFault, tell_unwritten};
-pub use line::{CommandLine, FlagOption, NumberOption, TextOption, VERSION};
+pub use line::{CommandLine, FlagOption, NumberOption, TextOption};
+pub use otlp_span::VERSION;
 pub use read::OptionValues;

@@ -9,10 +9,8 @@ use crate::fault::ArgFault;
 use clap::builder::ValueParser;
 use clap::error::ErrorKind;
 use clap::{Arg, ArgAction, Command, Error};
+use otlp_span::VERSION;
 use std::alloc::Global;
-
-/// The version that `--version` prints: that of each program of this repository.
-pub const VERSION: &str = "0.1.0";
 
 /// An option with a number after it: `--NAME NUMBER`, or `--NAME=NUMBER`.
 #[derive(Debug, Clone, Copy, PartialEq, Eq)]
