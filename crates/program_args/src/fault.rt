@@ -1,7 +1,7 @@
 //! Why the words of a command line ask for no run, and how that is reported.
-ghost use Rattle.std.specs.Prelude.{◌≡◌, ◌⊎◌};
+ghost use Rattle.std.specs.Prelude.{◌≡◌, ◌≤◌, ◌⊎◌};
 ghost use Rattle.std.specs.Io.KnownBytes.{Keeps};
-ghost use Rattle.program_args.specs.Faults.{fault_of_error, status_of};
+ghost use Rattle.program_args.specs.Faults.{IsMistake, fault_of_error, status_of};
 ghost use Rattle.program_args.specs.declared.fault.ArgFault.TheVariants as faults;
 
 use clap::Error;
@@ -56,7 +56,9 @@ impl ArgFault {
     /// can't be written. Help or a version that can't be written is reported as `cannot write`.
     pub fn tell<W: Write, F: Write>(&self, output: &mut W, faults: &mut F) -> u8
         ensures status { (result ≡ status_of self.now) ⊎ (result ≡ 1) }
-        ensures quiet { result ≡ 2 → Keeps (W.contents output.old) (W.contents output.new) }
+        ensures quiet { 2 ≤ result → Keeps (W.contents output.old) (W.contents output.new) }
+        ensures unasked { IsMistake self.now
+            → Keeps (W.contents output.old) (W.contents output.new) }
         ensures untold { result ≡ 0 → Keeps (F.contents faults.old) (F.contents faults.new) }
     {
         match self {

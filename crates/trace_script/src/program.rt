@@ -5,11 +5,11 @@ ghost use Rattle.std.specs.Io.KnownBytes.{Appends, IsAtEnd, Keeps};
 ghost use Rattle.hex.specs.Hex.{encode_lower};
 ghost use Rattle.span_script.specs.Parsed.{Means};
 ghost use Rattle.span_script.specs.Scripts.{Script as ScriptRead};
-ghost use Rattle.trace_script.specs.Command.{AskForBody, AskForHelp, AskForRun, IsTaken};
+ghost use Rattle.trace_script.specs.Command.{AskForBody, AskForRun, AskForText, IsTaken};
 ghost use Rattle.trace_script.specs.Printed.{AppendsStart, Explains, IsBadAt, IsBodyLine};
 ghost use Rattle.trace_script.specs.Printed.{IsPrinted, Prints, PrintsStart};
 
-use crate::command::{read_words, tell_words};
+use crate::command::read_words;
 use crate::failure::{Failure, tell};
 use crate::recorder::spans_of_script;
 use crate::text::text_of_script;
@@ -22,8 +22,8 @@ use std::io::{ErrorKind, Read, Write};
 
 /// The program `trace-script`, whose words are those of its command line, the program's name first.
 /// Where they ask for a script to be run, or for its body, it does so with that of the input, as
-/// `script`; nothing is read before. Where they ask for help it is printed, with the status 0. A
-/// mistake is reported on `faults`, with the status 2, and nothing is printed.
+/// `script`; nothing is read before. Where they ask for help or the version it is printed, with the
+/// status 0. A mistake is reported on `faults`, with the status 2, and nothing is printed.
 ///
 /// The answer is the program's status: 0, or 1 where a read or a write failed, 2 where the words or
 /// a line of the script are bad, 3 where memory was refused or the body would be too large.
@@ -35,7 +35,7 @@ pub fn trace_script<R: Read, W: Write, F: Write>(
     faults: &mut F,
 ) -> u8
     ensures status { result ≤ 3 }
-    ensures asked { result ≡ 0 → IsTaken words.now ⊎ AskForHelp words.now }
+    ensures asked { result ≡ 0 → IsTaken words.now ⊎ AskForText words.now }
     ensures run_printed { AskForRun words.now → result ≡ 0
         → Prints false (R.remaining input.old) (W.contents output.old) (W.contents output.new) }
     ensures body_printed { AskForBody words.now → result ≡ 0
@@ -53,7 +53,7 @@ pub fn trace_script<R: Read, W: Write, F: Write>(
 {
     match read_words(alloc, words) {
         Ok(body) => script(alloc, input, output, faults, body),
-        Err(error) => tell_words(output, faults, &error),
+        Err(fault) => fault.tell(output, faults),
     }
 }
 
