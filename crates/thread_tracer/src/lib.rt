@@ -6,9 +6,11 @@ mod count;
 mod made;
 mod open_spans;
 mod span;
+mod thread_trace;
 mod tracer;
 
 pub use span::ThreadSpan;
+pub use thread_trace::ThreadTrace;
 pub use tracer::{Refused, ThreadTracer};
 
 #[test]

@@ -1,0 +1,121 @@
+//! What a traced service came to.
+ghost use Rattle.std.specs.Prelude.{◌≡◌};
+ghost use Rattle.traced_service.specs.Sums.{Sums, left_out_after, not_started_after};
+
+use crate::work::ThreadDone;
+use batch_desk::Totals;
+use batch_service::{Done, Served};
+use drop_ledger::{DropCounts, NameLines};
+use http_exporter::HttpExporter;
+use std::io::{self, Write};
+use thread_tracer::Refused;
+
+/// What a traced service came to: what its threads gave, what was refused to their spans, and its
+/// end.
+#[derive(Drop)]
+pub struct TracedDone<T, R, L> {
+    /// What each thread came to, in their order.
+    pub threads: Vec<ThreadDone<T>>,
+    /// What was refused to the spans of all threads. Each count stops at 2^64 - 1.
+    pub refused: Refused,
+    /// The end of the service: the queue with its counts, the exporter, and the log.
+    pub served: Served<HttpExporter<R>, NameLines<L>>,
+}
+
+/// What was refused to the spans of all these threads.
+fn refused_of<T>(threads: &[ThreadDone<T>]) -> Refused
+    ensures { Sums threads.now result }
+{
+    let (mut not_started, mut left_out) = (0u64, 0u64);
+    for thread in threads {
+        not_started = not_started.saturating_add(thread.refused.not_started);
+        left_out = left_out.saturating_add(thread.refused.left_out);
+    }
+    Refused {
+        not_started,
+        left_out,
+    }
+}
+
+/// How many spans were dropped, for whatever reason.
+fn all_drops(drops: DropCounts) -> u64 {
+    drops
+        .queue_full
+        .saturating_add(drops.encode_memory)
+        .saturating_add(drops.too_large)
+        .saturating_add(drops.abandoned)
+}
+
+/// Writes a count after its name.
+fn write_count<W: Write>(output: &mut W, name: &str, count: u64) -> io::Result<()> {
+    writeln!(output, "{name} {count}")
+}
+
+impl<T, R, L> TracedDone<T, R, L> {
+    /// By what the service gave.
+    pub(crate) fn new(
+        done: Done<ThreadDone<T>, HttpExporter<R>, NameLines<L>>,
+    ) -> TracedDone<T, R, L>
+        ensures threads { result.threads ≡ done.outputs }
+        ensures served { result.served ≡ done.served }
+        ensures refused { Sums done.outputs.items result.refused }
+    {
+        let refused = refused_of(&done.outputs);
+        TracedDone {
+            threads: done.outputs,
+            refused,
+            served: done.served,
+        }
+    }
+
+    /// What became of the sampled spans that ended, and of their batches.
+    pub fn totals(&self) -> Totals {
+        self.served.desk.totals()
+    }
+
+    /// Writes a line for each count: of the spans that were not started and the calls that were
+    /// left out, where there are some, of spans and of batches by what became of them; and why the
+    /// last attempt failed, if one did.
+    ///
+    /// # Errors
+    ///
+    /// That of the first write that failed.
+    pub fn write_counts<W: Write>(&self, output: &mut W) -> io::Result<()> {
+        let (totals, fates) = (self.totals(), self.totals().fates);
+        if self.refused.not_started > 0 {
+            write_count(output, "spans not started", self.refused.not_started)?;
+        }
+        if self.refused.left_out > 0 {
+            write_count(output, "calls left out", self.refused.left_out)?;
+        }
+        write_count(output, "spans handed", totals.handed)?;
+        write_count(output, "spans lost", totals.lost)?;
+        write_count(output, "spans dropped", all_drops(totals.dropped))?;
+        write_count(output, "spans left", totals.left)?;
+        write_count(output, "batches delivered", fates.delivered)?;
+        write_count(output, "batches taken in part", fates.partial)?;
+        write_count(output, "batches refused", fates.refused)?;
+        write_count(output, "batches with a bad reply", fates.bad_reply)?;
+        write_count(output, "batches given up", fates.given_up)?;
+        match self.served.exporter.last_failure() {
+            Some(failure) => writeln!(output, "last failure: {failure}"),
+            None => Ok(()),
+        }
+    }
+
+    /// Whether no span was dropped, lost or left, and each batch was delivered.
+    pub fn is_delivered(&self) -> bool {
+        let totals = self.totals();
+        let fates = totals.fates;
+        let spans = all_drops(totals.dropped)
+            .saturating_add(totals.lost)
+            .saturating_add(totals.left);
+        let by_reply = fates.refused.saturating_add(fates.bad_reply);
+        let unsent = fates.given_up.saturating_add(fates.abandoned);
+        let failed = fates
+            .partial
+            .saturating_add(by_reply)
+            .saturating_add(unsent);
+        spans == 0 && failed == 0
+    }
+}

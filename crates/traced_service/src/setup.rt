@@ -1,0 +1,231 @@
+//! What a traced service is started with.
+ghost use Rattle.std.specs.Prelude.{◌≡◌, ◌↔◌, ◌≤◌, ◌⊎◌, IfOk, IsErrOf, None, if◌then◌else◌, vec_len};
+ghost use Rattle.batch_desk.specs.Views.{config_view};
+ghost use Rattle.batch_processor.specs.declared.config.BatchConfig.{BatchConfig as Config};
+ghost use Rattle.batch_service.specs.Service.{EndsServed, new_service, origin_of};
+ghost use Rattle.batch_service.specs.declared.service.TheConstants.{MAX_THREADS};
+ghost use Rattle.otlp_span.specs.Parts.{limits_view};
+ghost use Rattle.otlp_span.specs.Resources.{overlaid, service_resource};
+ghost use Rattle.otlp_value.specs.Value.{attributes_view};
+ghost use Rattle.traced_service.specs.Sums.{Sums};
+ghost use Rattle.traced_service.specs.Setups.{sampler_of};
+
+use crate::counts::TracedDone;
+use crate::work::{Traced, TracedWork};
+use batch_processor::BatchConfig;
+use batch_service::{StartFault, serve};
+use drop_ledger::NameLines;
+use http_exporter::HttpExporter;
+use otel_settings::{NamedSampler, SamplerName, SettingFault, Settings, settings_of_environment};
+use otlp_http::Target;
+use otlp_ids::OutOfMemory;
+use otlp_span::{Resource, Scope, VERSION};
+use rand::make_rng;
+use rand::rngs::StdRng;
+use rand_core::Rng;
+use retry_core::RetryConfig;
+use std::alloc::Global;
+use std::io::Write;
+use std::net::Net;
+use std::random::RandomSource;
+use std::rt::Env;
+use std::sync::{Arc, Wait};
+use std::thread::Threads;
+use std::time::Clock;
+use trace_api::Provider;
+
+/// What a traced service is started with: what its spans are made with, where they go, and how they
+/// wait.
+#[derive(Drop)]
+pub struct ServiceSetup {
+    is_off: bool,
+    provider: Provider<NamedSampler>,
+    scope: Arc<Scope>,
+    target: Target,
+    timeout_ms: u64,
+    config: BatchConfig,
+    faults: Vec<SettingFault>,
+    ghost is_time: { 1 ≤ timeout_ms },
+}
+
+/// The sampler of the settings, or one that samples no span where tracing is off.
+fn sampler_of(is_off: bool, sampler: NamedSampler) -> NamedSampler
+    ensures { result ≡ sampler_of is_off sampler }
+{
+    if is_off {
+        NamedSampler {
+            name: SamplerName::AlwaysOff,
+            ratio: sampler.ratio,
+        }
+    } else {
+        sampler
+    }
+}
+
+impl ServiceSetup {
+    /// By these settings, of the service with this name, which counts where they name none. Spans
+    /// are of a scope of that name too. Where tracing is off no span is sampled.
+    ///
+    /// # Errors
+    ///
+    /// `OutOfMemory` where memory was refused.
+    pub fn new(alloc: Global, name: &str, settings: Settings) -> Result<ServiceSetup, OutOfMemory>
+        ensures provider { IfOk result (λ setup. setup.provider ≡ record {
+          sampler = sampler_of settings.disabled settings.sampler;
+          resource = overlaid (service_resource VERSION.now name.now)
+              (attributes_view settings.resource.items);
+          limits = limits_view settings.limits;
+        }) }
+        ensures queue { IfOk result (λ setup.
+            config_view setup.config.desk ≡ config_view settings.desk) }
+        ensures target { IfOk result (λ setup. setup.target ≡ settings.target) }
+        ensures is_off { IfOk result (λ setup. setup.is_off ≡ settings.disabled) }
+    {
+        let timeout_ms = settings.request_timeout_ms();
+        let resource = Resource::service(alloc, name)?.with_attributes(alloc, settings.resource)?;
+        let sampler = sampler_of(settings.disabled, settings.sampler);
+        Ok(ServiceSetup {
+            is_off: settings.disabled,
+            provider: Provider::new(sampler, Arc::new(alloc, resource)?, settings.limits),
+            scope: Arc::new(alloc, Scope::named(alloc, name)?)?,
+            target: settings.target,
+            timeout_ms,
+            config: BatchConfig {
+                desk: settings.desk,
+                ..BatchConfig::default()
+            },
+            faults: settings.faults,
+        })
+    }
+
+    /// By the environment of the process, as [`ServiceSetup::new`].
+    ///
+    /// # Errors
+    ///
+    /// `OutOfMemory` where memory was refused.
+    pub fn from_environment<R: Env + AllocGlobal>(
+        rt: &R,
+        name: &str,
+    ) -> Result<ServiceSetup, OutOfMemory> {
+        let settings = settings_of_environment(rt)?;
+        ServiceSetup::new(rt.alloc(), name, settings)
+    }
+
+    /// The same, with these retries in place of the standard's.
+    pub fn with_retry(mut self, retry: RetryConfig) -> ServiceSetup
+        ensures provider { result.provider ≡ self.provider }
+        ensures queue { result.config ≡ record self.config { retry = retry } }
+        ensures target { result.target ≡ self.target }
+        ensures is_off { result.is_off ≡ self.is_off }
+    {
+        self.config.retry = retry;
+        self
+    }
+
+    /// Whether tracing is off, by `OTEL_SDK_DISABLED`.
+    pub fn is_off(&self) -> bool
+        ensures { result ≡ self.now.is_off }
+    {
+        self.is_off
+    }
+
+    /// The values of variables that can't be read, or that ask for what the kit doesn't have.
+    pub fn faults(&self) -> &[SettingFault]
+        ensures { result.now ≡ self.now.faults.items }
+    {
+        &self.faults
+    }
+
+    /// Serves with this number of threads, 1 to [`MAX_THREADS`](batch_service::MAX_THREADS): does
+    /// the work of each, exports its spans over HTTP, and stops once all work is done, as
+    /// [`batch_service::serve`]. The names of spans that aren't delivered go to the log, a line
+    /// each.
+    ///
+    /// # Errors
+    ///
+    /// Why the service was not started; then no work was done.
+    pub fn serve<R, L, W>(
+        self,
+        rt: R,
+        log: L,
+        threads: usize,
+        work: &W,
+    ) -> Result<TracedDone<W::Output, R, L>, StartFault>
+    where
+        R: Threads + Wait + RandomSource + Clock + Net + AllocGlobal,
+        R: Copy + Send + Sync + 'static,
+        L: Write + Send + Drop + 'static,
+        W: TracedWork + Sync,
+        W::Output: Send + Drop,
+        ensures served { IfOk result (λ done. EndsServed threads
+            (new_service (origin_of self.config threads) None None)
+            done.served.desk None None done.served.end) }
+        ensures threads { IfOk result (λ done. vec_len done.threads ≡ threads) }
+        ensures refused { IfOk result (λ done. Sums done.threads.items done.refused) }
+        ensures bad_passes { IsErrOf result StartFault.BadPasses
+            ↔ ((threads ≡ 0) ⊎ (MAX_THREADS < threads)) }
+    {
+        let alloc = rt.alloc();
+        let seed = draw_seed(&rt)?;
+        let exporter = HttpExporter::new(alloc, rt, self.target, self.timeout_ms);
+        let tracer = self.provider.tracer(self.scope);
+        let traced = Traced {
+            rt,
+            alloc,
+            tracer: &tracer,
+            seed,
+            work,
+        };
+        let log = NameLines::new(log);
+        let done = serve(rt, alloc, exporter, log, self.config, threads, &traced)?;
+        Ok(TracedDone::new(done))
+    }
+}
+
+/// What the generators of a service's threads are seeded with.
+///
+/// # Errors
+///
+/// `NoRandomBytes` where the system gave none.
+fn draw_seed<R: RandomSource>(rt: &R) -> Result<u64, StartFault> {
+    match make_rng::<StdRng, R>(rt) {
+        Ok(mut rng) => Ok(rng.next_u64()),
+        Err(_) => Err(StartFault::NoRandomBytes),
+    }
+}
+
+/// Serves the service with this name by the environment of the process (OpenTelemetry
+/// Specification, "Environment Variable Specification"): as [`ServiceSetup::from_environment`] and
+/// [`ServiceSetup::serve`]. What the environment has that can't be read or used is reported on the
+/// log first, a line each; a line that can't be written is left out.
+///
+/// # Errors
+///
+/// Why the service was not started; then no work was done.
+pub fn serve_from_environment<R, L, W>(
+    rt: R,
+    mut log: L,
+    name: &str,
+    threads: usize,
+    work: &W,
+) -> Result<TracedDone<W::Output, R, L>, StartFault>
+where
+    R: Threads + Wait + RandomSource + Clock + Net + Env + AllocGlobal,
+    R: Copy + Send + Sync + 'static,
+    L: Write + Send + Drop + 'static,
+    W: TracedWork + Sync,
+    W::Output: Send + Drop,
+    ensures served { IfOk result (λ done. (config : Config) × EndsServed threads
+        (new_service (origin_of config threads) None None)
+        done.served.desk None None done.served.end) }
+    ensures threads { IfOk result (λ done. vec_len done.threads ≡ threads) }
+    ensures refused { IfOk result (λ done. Sums done.threads.items done.refused) }
+{
+    let Ok(setup) = ServiceSetup::from_environment(&rt, name) else {
+        return Err(StartFault::OutOfMemory);
+    };
+    for fault in setup.faults() {
+        let _ = writeln!(log, "{fault}");
+    }
+    setup.serve(rt, log, threads, work)
+}
