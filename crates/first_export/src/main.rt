@@ -1,52 +1,41 @@
-//! Records two spans and exports them over TCP: to the collector at a host and a port, which are
-//! the arguments, or else as the environment says, which also names the resource, the sampler and
-//! the limits, or that tracing is off. Prints what became of the spans, and of the batch that they
-//! went out in, and what the last attempt met that failed; the status is 0 where the collector took
-//! it, and where no span is sampled or tracing is off. The names of spans that were dropped or lost
-//! go to the standard error, since their identifiers are random.
+//! A whole service, whose one thread traces a request for a cart: its three spans go over TCP to
+//! the collector that the environment names, or at localhost:4318. The environment also has the
+//! name of the service, the sampler and the limits, or that tracing is off. Prints what became of
+//! the spans and of the batch that they went out in, and why the last attempt failed, if one did;
+//! the status is 0 where the collector took it, and where no span is sampled. The names of spans
+//! that were dropped or lost, and what can't be used of the environment, go to the standard error.
 #![tactic(auto)]
 
-mod balance;
-mod cart;
-mod place;
-
-use crate::balance::write_balance;
-use crate::cart::Cart;
-use crate::place::read_place;
 use anyhow::Result;
-use std::io::Write;
 use std::process::ExitCode;
 use trace_kit::export::RetryConfig;
-use trace_kit::http::HttpExporter;
-use trace_kit::processor::{BatchConfig, Done, serve};
-use trace_kit::queue::NameLines;
+use trace_kit::service::{ServiceSetup, ThreadTrace, TracedWork};
+use trace_kit::trace::{KeyValue, Kind};
+
+struct Shop;
+
+impl TracedWork for Shop {
+    type Output = ();
+
+    fn work<T: ThreadTrace>(&self, _thread: usize, trace: &mut T) {
+        let request = trace.start("GET /cart", Kind::Server);
+        let mut query = trace.start("SELECT", Kind::Client);
+        query.set("db.system", "postgresql");
+        query.set("db.rows", 3);
+        query.event("row read", trace.now(), &[KeyValue::new("db.row", &1)]);
+        query.link(request.context(), &[KeyValue::new("cart.items", &3)]);
+        trace.end(query);
+        let page = trace.start("render", Kind::Internal);
+        trace.end(page);
+        trace.end(request);
+    }
+}
 
 fn main(rt: HostRuntime) -> Result<ExitCode> {
-    let alloc = rt.alloc();
-    let Some(place) = read_place(rt)? else {
-        writeln!(rt.stderr(), "usage: first_export [HOST PORT]")?;
-        return Ok(ExitCode::from(2));
-    };
-    if place.is_off {
-        writeln!(rt.stdout(), "OTEL_SDK_DISABLED is true: no span is made")?;
-        return Ok(ExitCode::SUCCESS);
-    }
-    let exporter = HttpExporter::new(alloc, rt, place.target, place.timeout_ms);
-    let exporter = exporter.reading_after_a_stop();
     // A batch is sent five times at most, with short waits.
-    let config = BatchConfig {
-        retry: RetryConfig::new(5, 200, 1000)?,
-        ..place.config
-    };
-    let names = NameLines::new(rt.stderr());
-    let cart = Cart {
-        rt,
-        alloc,
-        provider: place.provider,
-    };
-    let Done { outputs, served } = serve(rt, alloc, exporter, names, config, 1, &cart)?;
-    for output in outputs {
-        output?;
-    }
-    write_balance(&mut rt.stdout(), &served)
+    let retry = RetryConfig::new(5, 200, 1000)?;
+    let setup = ServiceSetup::from_environment(&rt, "shop")?.with_retry(retry);
+    let done = setup.serve(rt, rt.stderr(), 1, &Shop)?;
+    done.write_counts(&mut rt.stdout())?;
+    Ok(done.exit_code())
 }

@@ -12,7 +12,7 @@ pub use otlp_span::{
     replay,
 };
 pub use otlp_value::{AttributeList, Limits, Value};
-pub use thread_tracer::{Refused, ThreadSpan, ThreadTracer};
+pub use thread_tracer::{Refused, ThreadSpan, ThreadTrace, ThreadTracer};
 pub use trace_api::{
     BodyPass, Clock, EndPass, Ended, KeyValue, LinkRef, Provider, Span, SpanExt, SpanRequest,
     StartFault, ToValue, Tracer, ValueRef, WordsRng, start_span,

@@ -8,6 +8,7 @@ use batch_service::{Done, Served};
 use drop_ledger::{DropCounts, NameLines};
 use http_exporter::HttpExporter;
 use std::io::{self, Write};
+use std::process::ExitCode;
 use thread_tracer::Refused;
 
 /// What a traced service came to: what its threads gave, what was refused to their spans, and its
@@ -117,5 +118,13 @@ impl<T, R, L> TracedDone<T, R, L> {
             .saturating_add(by_reply)
             .saturating_add(unsent);
         spans == 0 && failed == 0
+    }
+    /// The status of a program that did nothing else: whether all was delivered.
+    pub fn exit_code(&self) -> ExitCode {
+        if self.is_delivered() {
+            ExitCode::SUCCESS
+        } else {
+            ExitCode::FAILURE
+        }
     }
 }

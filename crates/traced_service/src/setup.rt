@@ -138,8 +138,8 @@ impl ServiceSetup {
 
     /// Serves with this number of threads, 1 to [`MAX_THREADS`](batch_service::MAX_THREADS): does
     /// the work of each, exports its spans over HTTP, and stops once all work is done, as
-    /// [`batch_service::serve`]. The names of spans that aren't delivered go to the log, a line
-    /// each.
+    /// [`batch_service::serve`]. A line for each goes to the log: first for what the settings have
+    /// that can't be used, and then for each span that isn't delivered.
     ///
     /// # Errors
     ///
@@ -147,7 +147,7 @@ impl ServiceSetup {
     pub fn serve<R, L, W>(
         self,
         rt: R,
-        log: L,
+        mut log: L,
         threads: usize,
         work: &W,
     ) -> Result<TracedDone<W::Output, R, L>, StartFault>
@@ -165,9 +165,11 @@ impl ServiceSetup {
         ensures bad_passes { IsErrOf result StartFault.BadPasses
             ↔ ((threads ≡ 0) ⊎ (MAX_THREADS < threads)) }
     {
+        report(&mut log, &self.faults);
         let alloc = rt.alloc();
         let seed = draw_seed(&rt)?;
         let exporter = HttpExporter::new(alloc, rt, self.target, self.timeout_ms);
+        let exporter = exporter.reading_after_a_stop();
         let tracer = self.provider.tracer(self.scope);
         let traced = Traced {
             rt,
@@ -179,6 +181,13 @@ impl ServiceSetup {
         let log = NameLines::new(log);
         let done = serve(rt, alloc, exporter, log, self.config, threads, &traced)?;
         Ok(TracedDone::new(done))
+    }
+}
+
+/// Writes a line for each fault. A line that can't be written is left out.
+fn report<L: Write>(log: &mut L, faults: &[SettingFault]) {
+    for fault in faults {
+        let _ = writeln!(log, "{fault}");
     }
 }
 
@@ -195,16 +204,15 @@ fn draw_seed<R: RandomSource>(rt: &R) -> Result<u64, StartFault> {
 }
 
 /// Serves the service with this name by the environment of the process (OpenTelemetry
-/// Specification, "Environment Variable Specification"): as [`ServiceSetup::from_environment`] and
-/// [`ServiceSetup::serve`]. What the environment has that can't be read or used is reported on the
-/// log first, a line each; a line that can't be written is left out.
+/// Specification, "Environment Variable Specification"): [`ServiceSetup::from_environment`], and
+/// then [`ServiceSetup::serve`].
 ///
 /// # Errors
 ///
 /// Why the service was not started; then no work was done.
 pub fn serve_from_environment<R, L, W>(
     rt: R,
-    mut log: L,
+    log: L,
     name: &str,
     threads: usize,
     work: &W,
@@ -221,11 +229,8 @@ where
     ensures threads { IfOk result (λ done. vec_len done.threads ≡ threads) }
     ensures refused { IfOk result (λ done. Sums done.threads.items done.refused) }
 {
-    let Ok(setup) = ServiceSetup::from_environment(&rt, name) else {
-        return Err(StartFault::OutOfMemory);
-    };
-    for fault in setup.faults() {
-        let _ = writeln!(log, "{fault}");
+    match ServiceSetup::from_environment(&rt, name) {
+        Ok(setup) => setup.serve(rt, log, threads, work),
+        Err(OutOfMemory) => Err(StartFault::OutOfMemory),
     }
-    setup.serve(rt, log, threads, work)
 }
