@@ -4,6 +4,7 @@
 //! the spans and of the batch that they went out in, and why the last attempt failed, if one did;
 //! the status is 0 where the collector took it, and where no span is sampled. The names of spans
 //! that were dropped or lost, and what can't be used of the environment, go to the standard error.
+//! A batch is sent five times at most, with waits of 0.2 to 1 second.
 #![tactic(auto)]
 
 use anyhow::Result;
@@ -32,9 +33,8 @@ impl TracedWork for Shop {
 }
 
 fn main(rt: HostRuntime) -> Result<ExitCode> {
-    // A batch is sent five times at most, with short waits.
-    let retry = RetryConfig::new(5, 200, 1000)?;
-    let setup = ServiceSetup::from_environment(&rt, "shop")?.with_retry(retry);
+    let setup = ServiceSetup::from_environment(&rt, "shop")?;
+    let setup = setup.with_retry(RetryConfig::new(5, 200, 1000)?);
     let done = setup.serve(rt, rt.stderr(), 1, &Shop)?;
     done.write_counts(&mut rt.stdout())?;
     Ok(done.exit_code())
