@@ -1,3 +1,4 @@
+pub mod HeaderLemmas
 pub mod FinalLemmas
 pub mod RequestLemmas
 pub mod LastingLemmas

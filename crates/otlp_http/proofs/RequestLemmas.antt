@@ -4,20 +4,21 @@ use Rattle.std.proofs.Common.{append_assoc, append-nil, length-append, ◌≤◌
 use Rattle.std.specs.Prelude.{decimal}
 use Rattle.std.specs.List.{concat}
 use Rattle.otlp_http.specs.Address.{Address}
-use Rattle.otlp_http.specs.Request.{request_head, kept_head, last_lines, text_for}
+use Rattle.otlp_http.specs.Fields.{field_lines}
+use Rattle.otlp_http.specs.Request.{connection_line, request_head, kept_head, text_for}
 use Rattle.otlp_http.specs.declared.request.Connection.{Connection}
 use Rattle.otlp_http.specs.declared.request.Connection.TheVariants.{Close, KeepAlive}
 
--- The parts of six lines, one after the other, are the lines.
+-- The parts of six lines, of further ones and of an empty one, one after the other, are the lines.
 lines_of_parts :
-    (post path version host_name host colon port type size_name size close end body : List ℕ)
+    (post path version host_name host colon port type size_name size close own end body : List ℕ)
     → post
     ++ (path ++ (version ++ (end ++ (host_name ++ (host ++ (colon ++ (port ++ (end ++ (type ++ (end
-    ++ (size_name ++ (size ++ (end ++ (close ++ (end ++ (end ++ body))))))))))))))))
+    ++ (size_name ++ (size ++ (end ++ (close ++ (end ++ (own ++ (end ++ body)))))))))))))))))
     ≡ ((post ++ path ++ version) ++ end) ++ ((host_name ++ host ++ colon ++ port) ++ end)
     ++ (type ++ end)
-    ++ ((size_name ++ size) ++ end) ++ (close ++ end) ++ end ++ body
-lines_of_parts post path version host_name host colon port type size_name size close end body =
+    ++ ((size_name ++ size) ++ end) ++ (close ++ end) ++ own ++ end ++ body
+lines_of_parts post path version host_name host colon port type size_name size close own end body =
     simp append_assoc
 
 -- The pieces that are written are the request.
@@ -25,25 +26,28 @@ pub concat_request : (connection : Connection) (address : Address) (body : List 
     → concat (codes "POST " ∷ address.path ∷ codes " HTTP/1.1\r\nHost: " ∷ address.host ∷ codes ":"
     ∷ decimal address.port
     ∷ codes "\r\nContent-Type: application/x-protobuf\r\nContent-Length: " ∷ decimal (length body)
-    ∷ codes "\r\n" ∷ last_lines connection ∷ body ∷ []) ≡ text_for connection address body
+    ∷ codes "\r\n" ∷ connection_line connection ∷ field_lines address.fields ∷ codes "\r\n"
+    ∷ body ∷ []) ≡ text_for connection address body
 unfolding request_head kept_head
 concat_request Close address body =
     lines_of_parts (codes "POST ") address.path (codes " HTTP/1.1") (codes "Host: ") address.host
     (codes ":")
     (decimal address.port) (codes "Content-Type: application/x-protobuf") (codes "Content-Length: ")
-    (decimal (length body)) (codes "Connection: close") (codes "\r\n") (body ++ [])
+    (decimal (length body)) (codes "Connection: close") (field_lines address.fields)
+    (codes "\r\n") (body ++ [])
     ∙ ap (λ rest. request_head address (length body) ++ rest) (append-nil body)
 concat_request KeepAlive address body =
     lines_of_parts (codes "POST ") address.path (codes " HTTP/1.1") (codes "Host: ") address.host
     (codes ":")
     (decimal address.port) (codes "Content-Type: application/x-protobuf") (codes "Content-Length: ")
-    (decimal (length body)) (codes "Connection: keep-alive") (codes "\r\n") (body ++ [])
+    (decimal (length body)) (codes "Connection: keep-alive") (field_lines address.fields)
+    (codes "\r\n") (body ++ [])
     ∙ ap (λ rest. kept_head address (length body) ++ rest) (append-nil body)
 
--- The last two lines have at most 26 bytes.
-last_lines_short : (connection : Connection) → length (last_lines connection) ≤ 26
-last_lines_short Close = leb-true 21 26 refl
-last_lines_short KeepAlive = leb-true 26 26 refl
+-- The line that says what a request asks of its connection has at most 24 bytes.
+connection_line_short : (connection : Connection) → length (connection_line connection) ≤ 24
+connection_line_short Close = leb-true 19 24 refl
+connection_line_short KeepAlive = leb-true 24 24 refl
 
 -- The request is no longer than 107 bytes and the parts that vary.
 pub length-text_for : (connection : Connection) (address : Address) (body : List ℕ)
@@ -51,13 +55,15 @@ pub length-text_for : (connection : Connection) (address : Address) (body : List
     ≤ 107
     + (length address.path
     + (length address.host
-    + (length (decimal address.port) + (length (decimal (length body)) + length body))))
+    + (length (field_lines address.fields)
+    + (length (decimal address.port) + (length (decimal (length body)) + length body)))))
 length-text_for connection address body =
-    let short = last_lines_short connection in
+    let short = connection_line_short connection in
     subst (λ t. length t
     ≤ 107
     + (length address.path
     + (length address.host
-    + (length (decimal address.port) + (length (decimal (length body)) + length body)))))
+    + (length (field_lines address.fields)
+    + (length (decimal address.port) + (length (decimal (length body)) + length body))))))
     (concat_request connection address body)
     (simp (length-append, append-nil) (omega (arith, short)))

@@ -3,12 +3,15 @@ use Rattle.std.specs.Prelude.{ℕ, ◌+◌, ◌-◌, ◌^◌, ◌<◌, Bool, fal
 use Rattle.std.specs.Prelude.{List, [], ◌∷◌, length, slice_index, slice_range, IsTrue}
 use Rattle.std.specs.Char.{is_ascii_alphanumeric, is_ascii_hexdigit}
 use Rattle.std.specs.List.{list_all, list_any}
+use Rattle.otlp_http.specs.Fields.{Field, AreFields}
 
--- a host, a port and a path, each text as its bytes
+-- a host, a port and a path, each text as its bytes, and the fields of a program's own that each
+-- request has
 pub record Address : Type 0 where
   pub host : List ℕ
   pub port : ℕ
   pub path : List ℕ
+  pub fields : List Field
 
 -- an ASCII letter, a digit, `.`, `-` or `_`, which names of containers have
 abbrev pub is_host_byte : ℕ → Bool
@@ -57,8 +60,10 @@ begins_with_slash (byte ∷ bytes) = byte == 47
 abbrev pub is_path : List ℕ → Bool
 is_path path = begins_with_slash path && list_all is_path_byte path
 
--- host and path are taken, and so short that the bytes of a request can be counted in 64 bits
+-- host, path and fields are taken, and so short that the bytes of a request can be counted in 64
+-- bits
 pub record IsTarget (address : Address) : Type 0 where
   pub host : IsTrue (is_host address.host)
   pub path : IsTrue (is_path address.path)
+  pub fields : AreFields address.fields
   pub short : length address.host + length address.path < 2 ^ 62

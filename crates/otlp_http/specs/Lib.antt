@@ -1,3 +1,5 @@
+pub mod Fields
+pub mod FieldsView
 pub mod Address
 pub mod HeadLaws
 pub mod Heads

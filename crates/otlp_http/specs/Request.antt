@@ -2,6 +2,7 @@
 use Rattle.std.specs.Prelude.{ℕ, List, [], ◌++◌, length, codes, decimal}
 use Rattle.http_wire.specs.Lines.{line}
 use Rattle.otlp_http.specs.Address.{Address}
+use Rattle.otlp_http.specs.Fields.{field_lines}
 use Rattle.otlp_http.specs.declared.request.Connection.{Connection}
 use Rattle.otlp_http.specs.declared.request.Connection.TheVariants.{Close, KeepAlive}
 
@@ -15,17 +16,20 @@ first_lines address size =
 
 -- the head of a request whose connection is closed after the reply (RFC 9112, section 9.6)
 unfoldable pub request_head : Address → ℕ → List ℕ
-request_head address size = first_lines address size ++ line (codes "Connection: close") ++ line []
+request_head address size =
+    first_lines address size ++ line (codes "Connection: close") ++ field_lines address.fields
+    ++ line []
 
 -- the head of a request whose connection is kept (RFC 9112, section 9.3)
 unfoldable pub kept_head : Address → ℕ → List ℕ
 kept_head address size =
-    first_lines address size ++ line (codes "Connection: keep-alive") ++ line []
+    first_lines address size ++ line (codes "Connection: keep-alive") ++ field_lines address.fields
+    ++ line []
 
--- the last two lines of the head of a request that asks this of its connection
-abbrev pub last_lines : Connection → List ℕ
-last_lines Close = line (codes "Connection: close") ++ line []
-last_lines KeepAlive = line (codes "Connection: keep-alive") ++ line []
+-- the line of the field by which a request asks this of its connection
+abbrev pub connection_line : Connection → List ℕ
+connection_line Close = line (codes "Connection: close")
+connection_line KeepAlive = line (codes "Connection: keep-alive")
 
 -- the head of a request that asks this of its connection
 abbrev pub head_for : Connection → Address → ℕ → List ℕ

@@ -1,10 +1,11 @@
 //! Requests.
 
-ghost use Rattle.std.specs.Prelude.{◌≡◌, ◌+◌, ◌^◌, ◌<◌, length, take, map, decimal, IfErr, OnOk};
+ghost use Rattle.std.specs.Prelude.{◌≡◌, ◌+◌, ◌^◌, ◌<◌, ◌≤◌, length, take, map, decimal, IfErr, OnOk};
 ghost use Rattle.std.specs.Io.KnownBytes.{Appends};
 ghost use Rattle.std.specs.List.{concat};
 ghost use Rattle.http_wire.specs.Devices.{CountsFailure};
-ghost use Rattle.otlp_http.specs.Request.{last_lines, request_text, text_for};
+ghost use Rattle.otlp_http.specs.Fields.{field_lines};
+ghost use Rattle.otlp_http.specs.Request.{connection_line, request_text, text_for};
 
 use crate::target::Target;
 use http_wire::{FaultWrite, Stopped, write_pieces};
@@ -21,31 +22,32 @@ pub enum Connection {
 }
 
 impl Connection {
-    /// The last lines of a head: the field of this name, and an empty line.
-    pub fn last_lines(self) -> &'static [u8]
-        ensures { result.now ≡ last_lines self }
+    /// The line of the field of this name in a head, with its end.
+    pub fn line(self) -> &'static [u8]
+        ensures { result.now ≡ connection_line self }
     {
         match self {
-            Connection::Close => b"Connection: close\r\n\r\n",
-            Connection::KeepAlive => b"Connection: keep-alive\r\n\r\n",
+            Connection::Close => b"Connection: close\r\n",
+            Connection::KeepAlive => b"Connection: keep-alive\r\n",
         }
     }
 }
 
 /// The pieces of the request's text, with the port and the body's length in decimal digits, and the
-/// last lines of its head.
+/// line that says what it asks of its connection.
 fn request_pieces<'a, A: Allocator>(
     target: &'a Target<A>,
     port: &'a str,
     digits: &'a str,
-    last: &'a [u8],
+    asked: &'a [u8],
     body: &'a [u8],
-) -> [&'a [u8]; 11]
+) -> [&'a [u8]; 13]
     requires port { port.now ≡ decimal target.now.port }
     requires digits { digits.now ≡ decimal (length body.now) }
-    ensures whole { (connection : Connection) → last.now ≡ last_lines connection
+    ensures whole { (connection : Connection) → asked.now ≡ connection_line connection
         → concat (map (λ p. p.now) result) ≡ text_for connection target.now body.now }
     ensures short { length target.now.host + length target.now.path < 2 ^ 62 }
+    ensures few { length (field_lines target.now.fields) ≤ 8192 }
 {
     [
         b"POST ",
@@ -57,15 +59,17 @@ fn request_pieces<'a, A: Allocator>(
         b"\r\nContent-Type: application/x-protobuf\r\nContent-Length: ",
         digits.as_bytes(),
         b"\r\n",
-        last,
+        asked,
+        target.headers().lines(),
+        b"\r\n",
         body,
     ]
 }
 
 /// Writes the request that carries `body` to the target, and asks that the connection be closed
 /// after the reply: a POST with its head and the body, and nothing else (RFC 9112, sections 3 and
-/// 5; OTLP Specification, "OTLP/HTTP Request"; which fields it has: profile). It takes no memory,
-/// and doesn't wait for a reply.
+/// 5; OTLP Specification, "OTLP/HTTP Request"; which fields it has: profile). The target's own
+/// fields are the last ones of the head. It takes no memory, and doesn't wait for a reply.
 ///
 /// # Errors
 ///
@@ -113,6 +117,6 @@ pub fn write_request_for<W: FaultWrite, A: Allocator>(
     let mut digits = Buffer::new();
     let port = port.format(target.port());
     let digits = digits.format(body.len());
-    let last = connection.last_lines();
-    write_pieces(writer, &request_pieces(target, port, digits, last, body))
+    let asked = connection.line();
+    write_pieces(writer, &request_pieces(target, port, digits, asked, body))
 }

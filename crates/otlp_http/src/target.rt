@@ -1,11 +1,14 @@
 //! Where requests go.
 
-ghost use Rattle.std.specs.Prelude.{◌≡◌, ◌+◌, ◌^◌, ◌<◌, ◌↔◌, false, length, IfOk, IsErrOf, IsTrue};
+ghost use Rattle.std.specs.Prelude.{◌≡◌, ◌+◌, ◌^◌, ◌<◌, ◌↔◌, [], false, length, IfOk, IsErrOf};
+ghost use Rattle.std.specs.Prelude.{IsTrue};
 ghost use Rattle.std.specs.List.{list_all, list_any};
 ghost use Rattle.otlp_http.specs.declared.target.TargetFault.TheVariants as faults;
 ghost use Rattle.otlp_http.specs.Address.{is_address, is_address_byte, is_colon, is_host};
+ghost use Rattle.otlp_http.specs.Fields.{AreFields};
 ghost use Rattle.otlp_http.specs.Address.{is_host_byte, is_literal, is_name, is_path, is_path_byte};
 
+use crate::headers::HeaderFields;
 use std::alloc::{AllocError, Allocator, Global};
 use std::marker::Model;
 use thiserror::Error;
@@ -44,14 +47,15 @@ impl From<AllocError> for TargetFault {
     }
 }
 
-/// The host, the port and the path that a collector listens at (RFC 9110, section 7.2). In
-/// contracts it is an `Address`.
+/// The host, the port and the path that a collector listens at (RFC 9110, section 7.2), and the
+/// fields of a program's own that each request to it has. In contracts it is an `Address`.
 #[derive(Drop)]
 #[derive_where(Debug)]
 pub struct Target<A: Allocator = Global> {
     host: String<A>,
     port: u16,
     path: String<A>,
+    headers: HeaderFields<A>,
 }
 
 impl<A: Allocator> Model for Target<A> {
@@ -64,12 +68,14 @@ impl<A: Allocator> Model for Target<A> {
       host = string_bytes t.host;
       port = t.port;
       path = string_bytes t.path;
+      fields = t.headers;
     } };
 
     ghost invariant = { λ t. IsTarget (record {
       host = string_bytes t.host;
       port = t.port;
       path = string_bytes t.path;
+      fields = t.headers;
     }) };
 }
 
@@ -142,7 +148,7 @@ fn is_path(path: &str) -> bool
 const TOO_LONG: usize = 1 << 61;
 
 impl<A: Allocator + Copy> Target<A> {
-    /// A target at a collector. Where nothing else is known, the port is [`DEFAULT_PORT`], and the
+    /// A target at a collector, without fields of a program's own. Where nothing else is known, the port is [`DEFAULT_PORT`], and the
     /// path [`DEFAULT_PATH`] (OTLP Specification, "OTLP/HTTP Request").
     ///
     /// # Errors
@@ -154,7 +160,7 @@ impl<A: Allocator + Copy> Target<A> {
     /// to `~` (profile); `OutOfMemory` where one of them could not be stored.
     pub fn new(alloc: A, host: &str, port: u16, path: &str) -> Result<Target<A>, TargetFault>
         ensures value { IfOk result (λ t.
-            t ≡ record { host = host.now; port = port; path = path.now }) }
+            t ≡ record { host = host.now; port = port; path = path.now; fields = [] }) }
         ensures host { IfOk result (λ _. IsTrue (is_host host.now)) }
         ensures path { IfOk result (λ _. IsTrue (is_path path.now)) }
         ensures bad_host { IsErrOf result TargetFault.BadHost ↔ (is_host host.now ≡ false) }
@@ -174,11 +180,34 @@ impl<A: Allocator + Copy> Target<A> {
         }
         let host = String::from_str(alloc, host)?;
         let path = String::from_str(alloc, path)?;
-        Ok(Target { host, port, path })
+        let headers = HeaderFields::new(alloc);
+        Ok(Target {
+            host,
+            port,
+            path,
+            headers,
+        })
     }
 }
 
 impl<A: Allocator> Target<A> {
+    /// The same target with these fields in place of its own: each request that
+    /// [`write_request`](crate::write_request) writes to it has them.
+    pub fn with_headers(mut self, headers: HeaderFields<A>) -> Target<A>
+        ensures { result ≡ record self { fields = headers } }
+    {
+        self.headers = headers;
+        self
+    }
+
+    /// The fields of a program's own.
+    pub fn headers(&self) -> &HeaderFields<A>
+        ensures value { result.now ≡ self.now.fields }
+        ensures valid { AreFields result.now }
+    {
+        &self.headers
+    }
+
     /// The host: a name, an address of four numbers, or an IPv6 address in brackets.
     pub fn host(&self) -> &str
         ensures value { result.now ≡ self.now.host }

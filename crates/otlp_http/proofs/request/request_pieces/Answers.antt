@@ -1,5 +1,6 @@
-use Rattle.std.proofs.Common.{◌≡◌, ◌∙◌, length}
+use Rattle.std.proofs.Common.{◌≡◌, ◌∙◌, ap, length}
 use Rattle.std.specs.Prelude.{decimal}
+use Rattle.otlp_http.specs.Fields.{field_lines}
 use Rattle.otlp_http.proofs.RequestLemmas.{concat_request}
 use Rattle.otlp_http.proofs.request.request_pieces.Goals as goal
 
@@ -13,5 +14,7 @@ returns-clause-whole g c connection is =
     c.as_bytes-3.ensures.value ∙ c.requires.port in
     let digits : c.as_bytes-4.result.now ≡ decimal (length c.args.body.now) =
     c.as_bytes-4.ensures.value ∙ c.requires.digits in
+    let own : c.lines.result.now ≡ field_lines c.args.target.now.fields =
+    c.lines.ensures.value ∙ ap field_lines c.headers.ensures.value in
     let whole = concat_request connection c.args.target.now c.args.body.now in
-    rw path (rw host (rw port (rw digits (rw is whole))))
+    rw path (rw host (rw port (rw digits (rw own (rw is whole)))))

@@ -13,7 +13,8 @@ write_pieces-requires g c =
     let digits : length (decimal (length c.args.body.now)) ≤ 40 =
     subst (λ t. length t ≤ 40) c.format-digits.ensures.text c.format-digits.ensures.short in
     let target = c.request_pieces.ensures.short in
+    let few = c.request_pieces.ensures.few in
     let short : length (text_for c.args.connection c.args.target.now c.args.body.now) < 2 ^ 64 =
-    omega (arith, whole, port, digits, target) in
+    omega (arith, whole, port, digits, target, few) in
     subst (λ t. length t < 2 ^ 64)
-    (sym (c.request_pieces.ensures.whole c.args.connection c.last_lines-last.ensures)) short
+    (sym (c.request_pieces.ensures.whole c.args.connection c.line-asked.ensures)) short
