@@ -8,6 +8,7 @@ mod ids;
 mod large;
 mod ratios;
 mod refusals;
+mod resources;
 mod samplers;
 mod settings;
 mod short_calls;
