@@ -8,6 +8,8 @@ use denote.Param.SendFields.{FieldsHave, declared_send, variants_send, as_row_se
 use Rattle.std.proofs.Crossing as heap
 use Rattle.std.specs.contracts.alloc.Global as Heap
 use Rattle.std.below.std_heap.specs.contracts.GlobalAllocator.TheImpl.{ghosts}
+use Rattle.otlp_http.specs.contracts.headers.HeaderFields as HeaderFields
+use Rattle.otlp_http.specs.contracts.headers.HeaderFields.TheInside as headers
 use Rattle.otlp_http.specs.contracts.target.Target as Target
 use Rattle.otlp_http.specs.contracts.target.Target.TheInside as target
 use Rattle.http_wire.specs.contracts.limits.HeadLimits as HeadLimits
@@ -33,10 +35,16 @@ use Rattle.http_exporter.specs.declared.dial.Dial as dialing
 use Rattle.http_exporter.specs.contracts.tcp.TcpDial as TcpDial
 use Rattle.http_exporter.specs.contracts.tcp.TcpDial.TheInside as dial
 
+headers_send : IsSend (HeaderFields.the_row Heap.the_row ghosts)
+headers_send =
+    let fields : FieldsHave IsSend (headers.the_type Heap.the_row ghosts).parts =
+    search (sendable, as_row_send, heap.crosses) depth 60 fits 20000 in
+    view_send _ _ _ _ _ (declared_send (headers.the_type Heap.the_row ghosts) fields)
+
 target_send : IsSend (Target.the_row Heap.the_row ghosts)
 target_send =
     let fields : FieldsHave IsSend (target.the_type Heap.the_row ghosts).parts =
-    search (sendable, as_row_send, heap.crosses) depth 60 fits 20000 in
+    search (sendable, as_row_send, headers_send, heap.crosses) depth 60 fits 20000 in
     view_send _ _ _ _ _ (declared_send (target.the_type Heap.the_row ghosts) fields)
 
 limits_send : IsSend HeadLimits.the_row

@@ -9,7 +9,8 @@ use Rattle.std.specs.Prelude.{decimal, OnErr, Option, Result, Ok, Err}
 use Rattle.std.specs.Io.KnownBytes.{Appends}
 use Rattle.otlp_http.specs.Address.{Address}
 use Rattle.http_wire.specs.Devices.{one_more}
-use Rattle.otlp_http.specs.Request.{head_for, kept_head, last_lines, request_head}
+use Rattle.otlp_http.specs.Fields.{field_lines}
+use Rattle.otlp_http.specs.Request.{connection_line, head_for, kept_head, request_head}
 use Rattle.otlp_http.specs.declared.request.Connection.{Connection}
 use Rattle.otlp_http.specs.declared.request.Connection.TheVariants.{Close, KeepAlive}
 use Rattle.http_exporter.specs.Attempts.{Shown, IsSent, IsStopped}
@@ -17,10 +18,12 @@ use Rattle.http_exporter.specs.Attempts.{Shown, IsSent, IsStopped}
 -- The head of a request has this length.
 pub length-head_for : (connection : Connection) (address : Address) (size : ℕ)
     → length (head_for connection address size)
-    ≡ 81
+    ≡ 83
     + (length address.path
     + (length address.host
-    + (length (decimal address.port) + (length (decimal size) + length (last_lines connection)))))
+    + (length (decimal address.port)
+    + (length (decimal size)
+    + (length (connection_line connection) + length (field_lines address.fields))))))
 unfolding request_head kept_head
 length-head_for Close address size = simp length-append (omega arith)
 length-head_for KeepAlive address size = simp length-append (omega arith)

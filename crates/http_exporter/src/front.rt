@@ -10,12 +10,13 @@ use itoa::Buffer;
 use otlp_http::{Connection, DeviceFailed, FaultRead, FaultWrite, Target, write_request_for};
 use std::alloc::Allocator;
 
-/// The bytes of a head before its last lines that no target and no length change.
+/// The bytes of a head that no target, no length and nothing asked of the connection change.
 const FIXED: usize = concat!(
     "POST  HTTP/1.1\r\n",
     "Host: :\r\n",
     "Content-Type: application/x-protobuf\r\n",
     "Content-Length: \r\n",
+    "\r\n",
 )
 .len();
 
@@ -41,8 +42,8 @@ fn head_length<A: Allocator>(target: &Target<A>, connection: Connection, size: u
     let mut digits = Buffer::new();
     let port = port.format(target.port());
     let digits = digits.format(size);
-    let last = connection.last_lines().len();
-    FIXED + target.path().len() + target.host().len() + port.len() + digits.len() + last
+    let lines = connection.line().len() + target.headers().lines().len();
+    FIXED + target.path().len() + target.host().len() + port.len() + digits.len() + lines
 }
 
 /// Writes the whole piece.

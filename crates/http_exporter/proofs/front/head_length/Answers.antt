@@ -1,5 +1,6 @@
 use Rattle.std.proofs.Common.{ap, arith, length, ◌∙◌}
 use Rattle.std.specs.Prelude.{decimal}
+use Rattle.otlp_http.specs.Fields.{field_lines}
 use Rattle.http_exporter.proofs.FrontLemmas.{length-head_for}
 use Rattle.http_exporter.proofs.front.head_length.Goals as goal
 
@@ -10,5 +11,6 @@ returns g c =
     let host = ap length c.host.ensures.value in
     let port = ap length (c.format-port.ensures.text ∙ ap decimal c.port.ensures) in
     let digits = ap length c.format-digits.ensures.text in
-    let last = ap length c.last_lines-last.ensures in
-    omega (arith, whole, path, host, port, digits, last)
+    let asked = ap length c.line.ensures in
+    let own = ap length (c.lines.ensures.value ∙ ap field_lines c.headers.ensures.value) in
+    omega (arith, whole, path, host, port, digits, asked, own)
