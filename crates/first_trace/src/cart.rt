@@ -8,79 +8,44 @@ use anyhow::Result;
 use rand::Rng;
 use std::alloc::Global;
 use std::sync::Arc;
-use std::time::{Clock, SystemTime, UNIX_EPOCH};
+use std::time::Clock;
 use trace_kit::export::{DEFAULT_MAX_BODY, body_of};
+use trace_kit::processor::SystemClock;
 use trace_kit::trace::{
-    AlwaysOn, BodyPass, Kind, ParentBased, Provider, Resource, Sampler, Scope, Span, SpanLimits,
-    Status, Tracer, Value,
+    AlwaysOn, BodyPass, Kind, ParentBased, Provider, Resource, Scope, SpanLimits, ThreadTrace,
+    ThreadTracer,
 };
 
-/// The moment by the clock, in nanoseconds since 1970.
-fn now(clock: &impl Clock) -> Result<u64> {
-    let since = SystemTime::now(clock)?.duration_since(UNIX_EPOCH)?;
-    Ok(u64::try_from(since.as_nanos())?)
-}
-
-/// Traces the query that a request makes.
-fn trace_query<S: Sampler>(
-    alloc: Global,
-    clock: &impl Clock,
-    rng: &mut impl Rng,
-    tracer: &Tracer<'_, S>,
-    request: &Span,
-    pass: &mut BodyPass,
-) -> Result<()> {
-    // A span with a parent is its child, in the same trace.
-    let parent = Some(request.context());
-    let at = now(clock)?;
-    let mut query = tracer.start_copied(alloc, rng, parent, "SELECT", Kind::Client, at)?;
-    query.set_attribute("db.rows".to_string(alloc)?, Value::Int(3))?;
-    query.end(pass, now(clock)?);
-    Ok(())
+/// Traces a request for a cart and the query that it makes: a span that is started while another
+/// one is open is its child, in the same trace.
+fn trace_cart<T: ThreadTrace>(trace: &mut T) {
+    let mut request = trace.start("GET /cart", Kind::Server);
+    request.set("http.request.method", "GET");
+    let mut query = trace.start("SELECT", Kind::Client);
+    query.set("db.rows", 3);
+    trace.end(query);
+    trace.end(request);
 }
 
 /// Traces a request for a cart and the query that it makes, and keeps both spans.
-fn trace_cart<S: Sampler>(
-    alloc: Global,
-    clock: &impl Clock,
-    rng: &mut impl Rng,
-    tracer: &Tracer<'_, S>,
-) -> Result<BodyPass> {
-    // Spans go to a pass when they end. This one keeps up to 16 of them.
-    let mut pass = BodyPass::new(alloc, 16)?;
-
-    // A span without a parent begins a trace.
-    let at = now(clock)?;
-    let mut request = tracer.start_copied(alloc, rng, None, "GET /cart", Kind::Server, at)?;
-    request.set_attribute(
-        "http.request.method".to_string(alloc)?,
-        Value::text(alloc, "GET")?,
-    )?;
-    trace_query(alloc, clock, rng, tracer, &request, &mut pass)?;
-    request.set_status(Status::Ok);
-    request.end(&mut pass, now(clock)?);
-    Ok(pass)
-}
-
-/// The resource of a shop's service: what makes the spans.
-fn shop(alloc: Global) -> Result<Arc<Resource>> {
-    let service = (
-        "service.name".to_string(alloc)?,
-        Value::text(alloc, "shop")?,
-    );
-    let resource = Resource::new(alloc, vec![in alloc; service]?);
-    Ok(Arc::new(alloc, resource)?)
-}
-
-/// Traces a request for a cart and the query that it makes, and keeps both spans.
-pub fn trace_request(alloc: Global, clock: &impl Clock, rng: &mut impl Rng) -> Result<BodyPass> {
+pub fn trace_request<C, R>(alloc: Global, clock: C, rng: R) -> Result<BodyPass>
+where
+    C: Clock,
+    R: Rng + Drop,
+{
     // A provider knows what makes the spans, which are recorded, and how much they keep.
-    let sampler = ParentBased::new(AlwaysOn);
-    let provider = Provider::new(sampler, shop(alloc)?, SpanLimits::default());
+    let resource = Arc::new(alloc, Resource::service(alloc, "shop")?)?;
+    let provider = Provider::new(ParentBased::new(AlwaysOn), resource, SpanLimits::default());
 
     // A tracer starts the spans of one part of the program.
     let scope = Arc::new(alloc, Scope::named(alloc, "checkout")?)?;
-    trace_cart(alloc, clock, rng, &provider.tracer(scope))
+    let tracer = provider.tracer(scope);
+
+    // Spans go to a pass when they end. This one keeps up to 16 of them.
+    let mut pass = BodyPass::new(alloc, 16)?;
+    let clock = SystemClock::new(clock);
+    trace_cart(&mut ThreadTracer::new(&tracer, alloc, rng, clock, &mut pass));
+    Ok(pass)
 }
 
 /// The body of the request that exports these spans: by OTLP's meaning it has each of them, under

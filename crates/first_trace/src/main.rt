@@ -12,8 +12,8 @@ use std::io::Write;
 
 fn main(rt: HostRuntime) -> Result<()> {
     let alloc = rt.alloc();
-    let mut rng: StdRng = make_rng(&rt)?;
-    let pass = cart::trace_request(alloc, &rt, &mut rng)?;
+    let rng: StdRng = make_rng(&rt)?;
+    let pass = cart::trace_request(alloc, rt, rng)?;
     let body = cart::export(alloc, &pass)?;
     let mut output = rt.stdout();
     tree::write_tree(&mut output, pass.spans())?;

@@ -20,7 +20,6 @@ service_attributes version name =
     ∷ text_pair (codes "telemetry.sdk.name") (codes "dulhafrin")
     ∷ text_pair (codes "telemetry.sdk.version") version ∷ []
 
--- the resource of a service with this name, without a schema
 abbrev pub service_resource : List ℕ → List ℕ → Resource
 service_resource version name =
     record { attributes = service_attributes version name; schema = [] }
