@@ -30,7 +30,7 @@ fn trace_cart<T: ThreadTrace>(trace: &mut T) {
 /// Traces a request for a cart and the query that it makes, and keeps both spans.
 pub fn trace_request<C, R>(alloc: Global, clock: C, rng: R) -> Result<BodyPass>
 where
-    C: Clock,
+    C: Clock + Drop,
     R: Rng + Drop,
 {
     // A provider knows what makes the spans, which are recorded, and how much they keep.
