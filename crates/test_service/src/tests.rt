@@ -1,5 +1,6 @@
 //! The tests, a module for each part of what is tested, and what they share.
 
+mod environment;
 mod equal;
 mod fixture;
 mod serving;
