@@ -6,3 +6,4 @@ pub mod Words
 mod Resources
 pub mod Decoding
 pub mod Lists
+pub mod HeaderSteps

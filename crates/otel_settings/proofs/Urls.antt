@@ -1,5 +1,5 @@
 -- What methods of texts say of the parts of a URL.
-use Rattle.std.proofs.Common.{◌≡◌, ℕ, ◌==◌, List, ◌∷◌, length, drop, true, false, Option, Some}
+use Rattle.std.proofs.Common.{◌≡◌, ℕ, ◌==◌, List, [], ◌∷◌, length, drop, true, false, Option, Some}
 use Rattle.std.proofs.Common.{None, refl, sym, ap, ◌∙◌, eqb}
 use Rattle.std.specs.Prelude.{Bool, if◌then◌else◌, option_map, option_and_then, MatchOption}
 use Rattle.std.specs.List.{starts_with, before_first, after_first}
@@ -25,6 +25,7 @@ at_port : (is_base : Bool) (rest : List ℕ) (port : ℕ) → Some port ≡ port
       host = host_of (authority_of rest);
       port = port;
       path = target_path is_base (path_of rest) (query_of rest);
+      fields = [];
     })
 at_port is_base rest port read = rw (← read) refl
 
@@ -35,7 +36,8 @@ pub by_parts : (is_base : Bool) (url rest place query authority tail host path :
     → authority ≡ before_first (λ b. b == 47) place → tail ≡ after_first (λ b. b == 47) place
     → Some port ≡ port_in authority → host ≡ host_of authority
     → path ≡ target_path is_base (47 ∷ tail) query
-    → allowed (record { host = host; port = port; path = path }) ≡ endpoint is_base url
+    → allowed (record { host = host; port = port; path = path; fields = [] })
+    ≡ endpoint is_base url
 unfolding endpoint
 by_parts is_base url rest place query authority tail host path port scheme place_is query_is
     authority_is tail_is port_is host_is path_is =

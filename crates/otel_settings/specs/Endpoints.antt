@@ -59,8 +59,7 @@ with_query path [] = path
 with_query path (byte ∷ query) = (path ++ codes "?") ++ (byte ∷ query)
 
 -- the path of requests, for traces or as a base of all signals, and its query (that a base keeps
--- its
--- query: profile)
+-- its query: profile)
 unfoldable pub target_path : Bool → List ℕ → List ℕ → List ℕ
 target_path is_base path query = with_query (request_path is_base path) query
 
@@ -118,6 +117,7 @@ place_of is_base rest =
       host = host_of (authority_of rest);
       port = port;
       path = target_path is_base (path_of rest) (query_of rest);
+      fields = [];
     })) (port_in (authority_of rest))
 
 -- the place that a URL names, for traces or as a base of all signals
@@ -133,7 +133,8 @@ endpoint_faults is_base variable other pairs =
 
 -- where a collector on the same machine takes traces (OTLP Specification, OTLP/HTTP Default Port)
 abbrev pub default_address : Address
-default_address = record { host = codes "localhost"; port = 4318; path = codes "/v1/traces" }
+default_address =
+    record { host = codes "localhost"; port = 4318; path = codes "/v1/traces"; fields = [] }
 
 -- That of traces as it is, where it is set, and else the base of all signals.
 unfoldable pub target_of : Pairs → Address

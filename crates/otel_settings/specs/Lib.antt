@@ -6,6 +6,7 @@ pub mod Readings
 pub mod Samplers
 pub mod Resources
 pub mod Endpoints
+pub mod Headers
 pub mod Unsupported
 pub mod Settings
 pub mod SettingsView

@@ -15,6 +15,7 @@ use Rattle.otel_settings.specs.declared.sampler.NamedSampler.{NamedSampler}
 use Rattle.otel_settings.specs.Samplers.{sampler_of, sampler_faults}
 use Rattle.otel_settings.specs.Resources.{resource_of, resource_faults}
 use Rattle.otel_settings.specs.Endpoints.{target_of, target_faults}
+use Rattle.otel_settings.specs.Headers.{headers_of, header_faults, with_fields}
 use Rattle.otel_settings.specs.Unsupported.{unsupported_faults}
 use Rattle.otel_settings.specs.Pairs.{Pairs, text_set}
 use Rattle.otel_settings.specs.Readings.{boolean, number_in}
@@ -169,7 +170,7 @@ all_faults pairs =
     let export : List Fault = export_timeout_faults queue pairs in
     let sending : List Fault =
     timeout_faults (target_faults (limit_faults export pairs) pairs) pairs in
-    unsupported_faults sending pairs
+    header_faults (unsupported_faults sending pairs) pairs
 
 -- What the names and values set, variable by variable. (Environment Variable Specification)
 unfoldable pub settings_of : Pairs → Settings
@@ -181,7 +182,7 @@ settings_of pairs = record {
   desk = desk_of pairs;
   export_timeout_ms = export_timeout_of pairs;
   limits = limits_of pairs;
-  target = target_of pairs;
+  target = with_fields (target_of pairs) (headers_of pairs);
   timeout_ms = timeout_of pairs;
   faults = all_faults pairs;
 }

@@ -1,8 +1,8 @@
 -- What the standard has and this kit hasn't: of such a variable each value is a fault but the one
--- that
--- says what there is. (OpenTelemetry Specification, Environment Variable Specification, General SDK
--- Configuration, Exporter Selection; OTLP Specification, OTLP Exporter Configuration; that they are
--- faults: profile)
+-- that says what there is. (OpenTelemetry Specification, Environment Variable Specification,
+-- General
+-- SDK Configuration, Exporter Selection; OTLP Specification, OTLP Exporter Configuration; that they
+-- are faults: profile)
 use Rattle.std.specs.Prelude.{ℕ, Bool, false, List, map, ◌++◌, Option, Some, None, bytes_eq, codes}
 use Rattle.std.specs.Char.{to_ascii_lowercase}
 use Rattle.otel_settings.specs.declared.variable.Variable.{Variable}
@@ -49,14 +49,7 @@ tls_faults before pairs =
     ++ other_faults (codes "") variables.OtlpClientCertificate instead.PlainHttp pairs
     ++ other_faults (codes "") variables.OtlpTracesClientCertificate instead.PlainHttp pairs
 
--- any headers
-unfoldable pub header_faults : List Fault → Pairs → List Fault
-header_faults before pairs =
-    before
-    ++ other_faults (codes "") variables.OtlpHeaders instead.NoHeaders pairs
-    ++ other_faults (codes "") variables.OtlpTracesHeaders instead.NoHeaders pairs
-
 -- all of them, after those before
 abbrev pub unsupported_faults : List Fault → Pairs → List Fault
 unsupported_faults before pairs =
-    header_faults (tls_faults (form_faults (selection_faults before pairs) pairs) pairs) pairs
+    tls_faults (form_faults (selection_faults before pairs) pairs) pairs

@@ -1,6 +1,6 @@
 //! Where spans are sent to.
 
-ghost use Rattle.std.specs.Prelude.{◌≡◌, ◌++◌, ◌<◌, ◌==◌, ◌∷◌, IfOk, OnOk, codes, nat_eq};
+ghost use Rattle.std.specs.Prelude.{◌≡◌, ◌++◌, ◌<◌, ◌==◌, [], ◌∷◌, IfOk, OnOk, codes, nat_eq};
 ghost use Rattle.std.specs.Prelude.{option_map, string_bytes};
 ghost use Rattle.std.specs.List.{after_first, before_first, ends_with, list_all, list_any};
 ghost use Rattle.otel_settings.specs.Pairs.{pairs_view};
@@ -188,7 +188,7 @@ fn allowed_target<A: Allocator + Copy>(
     path: &str,
 ) -> Result<Option<Target<A>>, AllocError>
     ensures { IfOk result (λ target. target ≡ endpoints.allowed
-        (record { host = host.now; port = port; path = path.now })) }
+        (record { host = host.now; port = port; path = path.now; fields = [] })) }
 {
     if !is_plain(path.as_bytes()) {
         return Ok(None);

@@ -5,6 +5,7 @@ ghost use Rattle.otel_settings.specs.Faults.{faults_view, unread};
 
 use crate::sampler::SamplerName;
 use crate::variable::Variable;
+use otlp_http::HeaderFault;
 use std::alloc::{AllocError, Allocator, Global};
 use std::fmt;
 
@@ -69,10 +70,13 @@ impl fmt::Display for Instead {
 pub struct SettingFault<A: Allocator = Global> {
     /// The variable.
     pub variable: Variable,
-    /// Its value.
+    /// Its value. Of headers, whose values may be secrets, the name of the field that isn't taken,
+    /// and nothing where the value is no pairs.
     pub text: String<A>,
     /// What is used instead.
     pub instead: Instead,
+    /// Of headers, why the field of this name isn't taken.
+    pub cause: Option<HeaderFault>,
 }
 
 /// The scheme of a URL over TLS.
@@ -91,7 +95,8 @@ impl<A: Allocator> SettingFault<A> {
 }
 
 /// Says the variable, its value, and what is used instead. Of a variable whose value may be a
-/// secret, as of headers and keys, the value isn't said.
+/// secret, as of headers and keys, the value isn't said; of headers, the name of the field that
+/// isn't taken is.
 impl<A: Allocator> fmt::Display for SettingFault<A> {
     fn fmt<W: fmt::Write>(&self, f: &mut fmt::Formatter<W>) -> fmt::Result {
         let variable = self.variable;
@@ -108,6 +113,15 @@ impl<A: Allocator> fmt::Display for SettingFault<A> {
             );
         }
         let form = variable.form();
+        if let Some(cause) = self.cause {
+            return write!(
+                f,
+                "{variable}: the field {text:?} isn't sent ({cause}): {instead} is used instead"
+            );
+        }
+        if variable.is_secret() {
+            return write!(f, "{variable} isn't {form}: {instead} is used instead");
+        }
         write!(
             f,
             "{variable}: {text:?} isn't {form}: {instead} is used instead"
@@ -136,6 +150,7 @@ pub(crate) fn note_unread<A: Allocator>(
         variable,
         text,
         instead,
+        cause: None,
     })?;
     Ok(())
 }

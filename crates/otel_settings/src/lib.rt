@@ -6,7 +6,8 @@
 //! last counts, and a variable that isn't set, or whose value is empty, leaves its default. A value
 //! that can't be read leaves the default, too, and is once in the list of faults, with its variable
 //! and with what is used instead. So is a value that asks for what the kit doesn't have, as another
-//! protocol, TLS and headers.
+//! protocol and TLS. Headers go out with each request to the collector. Of theirs a fault says the
+//! name alone, since their values may be secrets.
 //!
 //! [`resource_attributes`] reads the text of `OTEL_RESOURCE_ATTRIBUTES`: `key1=value1,key2=value2`
 //! (OpenTelemetry Specification, "Resource SDK", "Specifying resource information via an
@@ -20,6 +21,7 @@ mod attributes;
 mod endpoint;
 mod environment;
 mod fault;
+mod headers;
 mod laws;
 mod pair_texts;
 mod pairs;

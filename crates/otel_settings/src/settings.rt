@@ -10,6 +10,7 @@ ghost use Rattle.otel_settings.specs.SettingsView.{settings_view};
 
 use crate::endpoint::read_target;
 use crate::fault::{Instead, SettingFault};
+use crate::headers::read_headers;
 use crate::read::{read_boolean, read_number, read_text};
 use crate::resource::read_resource;
 use crate::sampler::{NamedSampler, read_sampler};
@@ -44,7 +45,8 @@ pub struct Settings<A: Allocator = Global> {
     pub export_timeout_ms: u32,
     /// How much a span keeps.
     pub limits: SpanLimits,
-    /// Where spans are sent to: `http://localhost:4318/v1/traces` by default.
+    /// Where spans are sent to: `http://localhost:4318/v1/traces` by default. It has the fields of
+    /// `OTEL_EXPORTER_OTLP_HEADERS`, or of that of traces, which go out with each request.
     pub target: Target<A>,
     /// How long a request to the collector may take, in milliseconds: 10,000 by default. 0 is no
     /// limit.
@@ -236,6 +238,7 @@ pub fn settings_of<A: Allocator + Copy>(
     let target = read_target(alloc, &mut faults, pairs)?;
     let timeout_ms = read_timeout(alloc, &mut faults, pairs)?;
     note_unsupported(alloc, &mut faults, pairs)?;
+    let headers = read_headers(alloc, &mut faults, pairs)?;
     Ok(Settings {
         disabled: disabled.unwrap_or(false),
         resource,
@@ -244,7 +247,7 @@ pub fn settings_of<A: Allocator + Copy>(
         desk,
         export_timeout_ms: timeout.unwrap_or(30_000),
         limits,
-        target,
+        target: target.with_headers(headers),
         timeout_ms,
         faults,
     })

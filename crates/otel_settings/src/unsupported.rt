@@ -111,22 +111,6 @@ fn note_tls<A: Allocator + Copy>(
     note_other(alloc, faults, pairs, traces, NONE, instead)
 }
 
-/// Adds a fault for all headers.
-#[tactic(auto, unfolding(crate::specs::Unsupported::header_faults))]
-fn note_headers<A: Allocator + Copy>(
-    alloc: A,
-    faults: &mut Vec<SettingFault<A>, A>,
-    pairs: &[(&str, &str)],
-) -> Result<(), AllocError>
-    ensures { OnOk result (faults_view faults.new.items
-        ≡ unsupported.header_faults (faults_view faults.old.items) (pairs_view pairs.now)) }
-{
-    let instead = Instead::NoHeaders;
-    let (all, traces) = (Variable::OtlpHeaders, Variable::OtlpTracesHeaders);
-    note_other(alloc, faults, pairs, all, NONE, instead)?;
-    note_other(alloc, faults, pairs, traces, NONE, instead)
-}
-
 /// Adds a fault for each variable that asks for what there isn't, in their order.
 pub(crate) fn note_unsupported<A: Allocator + Copy>(
     alloc: A,
@@ -138,6 +122,5 @@ pub(crate) fn note_unsupported<A: Allocator + Copy>(
 {
     note_selection(alloc, faults, pairs)?;
     note_form(alloc, faults, pairs)?;
-    note_tls(alloc, faults, pairs)?;
-    note_headers(alloc, faults, pairs)
+    note_tls(alloc, faults, pairs)
 }

@@ -77,9 +77,9 @@ pub enum Variable {
     OtlpClientCertificate,
     /// `OTEL_EXPORTER_OTLP_TRACES_CLIENT_CERTIFICATE`: the same for spans.
     OtlpTracesClientCertificate,
-    /// `OTEL_EXPORTER_OTLP_HEADERS`: fields of each request; there are none of a program's own.
+    /// `OTEL_EXPORTER_OTLP_HEADERS`: fields of each request to the collector, beside the kit's.
     OtlpHeaders,
-    /// `OTEL_EXPORTER_OTLP_TRACES_HEADERS`: the same for spans.
+    /// `OTEL_EXPORTER_OTLP_TRACES_HEADERS`: those of each request with spans.
     OtlpTracesHeaders,
 }
 
@@ -127,7 +127,8 @@ impl Variable {
     pub(crate) fn form(self) -> &'static str {
         match self {
             Variable::SdkDisabled => "true or false",
-            Variable::ResourceAttributes => "key=value,key=value with other characters as %XX",
+            Variable::ResourceAttributes | Variable::OtlpHeaders | Variable::OtlpTracesHeaders =>
+                "key=value,key=value with other characters as %XX",
             Variable::ServiceName => "a name",
             Variable::TracesSampler => {
                 "always_on, always_off or traceidratio, alone or after parentbased_"
@@ -160,9 +161,12 @@ impl Variable {
                 | Variable::OtlpTracesClientKey
                 | Variable::OtlpClientCertificate
                 | Variable::OtlpTracesClientCertificate
-                | Variable::OtlpHeaders
-                | Variable::OtlpTracesHeaders
         )
+    }
+
+    /// Whether its value may be a secret.
+    pub(crate) fn is_secret(self) -> bool {
+        matches!(self, Variable::OtlpHeaders | Variable::OtlpTracesHeaders)
     }
 
     /// The name that it has in the environment.

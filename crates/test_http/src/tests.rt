@@ -8,6 +8,7 @@ mod equal;
 mod faults;
 mod fixture;
 mod head_places;
+mod headers;
 mod kept;
 mod posts;
 mod refused_memory;
