@@ -29,6 +29,7 @@ mod rings;
 mod rows;
 mod tables;
 mod threads;
+mod traced;
 
 use anyhow::Result;
 use std::env;

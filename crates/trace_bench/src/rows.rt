@@ -147,3 +147,16 @@ pub fn write_calls<W: Write>(output: &mut W, handed: u64, lent: u64) -> io::Resu
         "an attribute: set_attribute {handed} ns, set {lent} ns"
     )
 }
+
+/// Writes how long a span takes by bare calls, and by those of a thread's tracer.
+pub fn write_traced<W: Write>(
+    output: &mut W,
+    attributes: usize,
+    bare: u64,
+    traced: u64,
+) -> io::Result<()> {
+    writeln!(
+        output,
+        "a span, {attributes} attributes: bare calls {bare} ns, a thread's tracer {traced} ns"
+    )
+}

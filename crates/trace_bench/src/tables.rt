@@ -12,6 +12,7 @@ use crate::rows::{
     write_run,
 };
 use crate::threads::{Round, idle_share, run_round};
+use crate::traced::print_traced;
 use anyhow::Result;
 use batch_processor::SystemClock;
 use span_ring::MAX_QUEUE;
@@ -292,6 +293,7 @@ where
     }
     for attributes in [0usize, 5] {
         print_attributes(rt, alloc, output, attributes)?;
+        print_traced(&rt, alloc, output, attributes)?;
     }
     print_calls(&rt, alloc, output)?;
     print_requests(rt, alloc, output)?;

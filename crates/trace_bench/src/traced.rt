@@ -1,0 +1,98 @@
+//! What a span takes by the calls of a thread's tracer, beside the same by bare calls.
+use crate::figures::{median, nanos_since};
+use crate::load::{ATTRIBUTES, new_provider, set_lent};
+use crate::rows::write_traced;
+use anyhow::Result;
+use batch_processor::SystemClock;
+use otlp_sampler::AlwaysOn;
+use otlp_span::{Kind, Scope};
+use rand::make_rng;
+use rand::rngs::StdRng;
+use std::alloc::Global;
+use std::io::Write;
+use std::random::RandomSource;
+use std::sync::Arc;
+use std::time::{Clock, Instant};
+use thread_tracer::{ThreadTrace, ThreadTracer};
+use trace_api::{BodyPass, Clock as _, Tracer};
+
+/// How many rounds there are of each way.
+const ROUNDS: u32 = 201;
+
+/// How many spans a round has.
+const SPANS: usize = 512;
+
+/// Ends spans with so many attributes by the calls of a thread's tracer.
+fn end_traced<T: ThreadTrace>(trace: &mut T, attributes: usize) {
+    for _span in 0..SPANS {
+        let mut span = trace.start("GET /cart", Kind::Server);
+        for (key, text) in ATTRIBUTES.iter().take(attributes) {
+            span.set(key, *text);
+        }
+        trace.end(span);
+    }
+}
+
+/// The same by bare calls.
+fn end_bare<R: Clock>(
+    alloc: Global,
+    clock: &SystemClock<R>,
+    rng: &mut StdRng,
+    tracer: &Tracer<'_, AlwaysOn>,
+    attributes: usize,
+    pass: &mut BodyPass,
+) -> Result<()> {
+    for _span in 0..SPANS {
+        let at = clock.now();
+        let mut span = tracer.start_copied(alloc, rng, None, "GET /cart", Kind::Server, at)?;
+        set_lent(&mut span, attributes)?;
+        span.end(pass, clock.now());
+    }
+    Ok(())
+}
+
+/// How long a round takes in one of the ways, in nanoseconds a span.
+fn time_round<R>(
+    rt: &R,
+    alloc: Global,
+    tracer: &Tracer<'_, AlwaysOn>,
+    attributes: usize,
+    is_bare: bool,
+) -> Result<u64>
+where
+    R: RandomSource + Clock,
+{
+    let mut rng: StdRng = make_rng(rt)?;
+    let mut pass = BodyPass::new(alloc, SPANS)?;
+    let clock = SystemClock::new(rt);
+    let start = Instant::now(rt)?;
+    if is_bare {
+        end_bare(alloc, &clock, &mut rng, tracer, attributes, &mut pass)?;
+    } else {
+        let mut trace = ThreadTracer::new(tracer, alloc, &mut rng, &clock, &mut pass);
+        end_traced(&mut trace, attributes);
+    }
+    let nanos = nanos_since(rt, start)?;
+    Ok(nanos / SPANS as u64)
+}
+
+/// Prints how long a span takes in each way, in the middle one of some rounds, which take turns.
+pub fn print_traced<R, W: Write>(
+    rt: &R,
+    alloc: Global,
+    output: &mut W,
+    attributes: usize,
+) -> Result<()>
+where
+    R: RandomSource + Clock,
+{
+    let provider = new_provider(alloc)?;
+    let tracer = provider.tracer(Arc::new(alloc, Scope::named(alloc, "checkout")?)?);
+    let (mut bare, mut traced) = (Vec::new(alloc), Vec::new(alloc));
+    for _round in 0..ROUNDS {
+        bare.push(time_round(rt, alloc, &tracer, attributes, true)?)?;
+        traced.push(time_round(rt, alloc, &tracer, attributes, false)?)?;
+    }
+    write_traced(output, attributes, median(bare)?, median(traced)?)?;
+    Ok(())
+}
