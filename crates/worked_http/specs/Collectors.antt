@@ -1,11 +1,21 @@
 -- Where the requests of the examples go.
-use Rattle.std.specs.Prelude.{codes}
+use Rattle.std.specs.Prelude.{ℕ, List, [], ◌∷◌, codes}
 use Rattle.otlp_http.specs.Address.{Address}
+
+-- a place to which requests have no fields of a program's own
+abbrev pub place : List ℕ → ℕ → List ℕ → Address
+place host port path = record { host = host; port = port; path = path; fields = [] }
 
 -- a collector on this machine, as it is by default
 abbrev pub local : Address
-local = record { host = codes "127.0.0.1"; port = 4318; path = codes "/v1/traces" }
+local = place (codes "127.0.0.1") 4318 (codes "/v1/traces")
 
 -- one elsewhere
 abbrev pub elsewhere : Address
-elsewhere = record { host = codes "a-1.test"; port = 0; path = codes "/?q=~" }
+elsewhere = place (codes "a-1.test") 0 (codes "/?q=~")
+
+-- the same one, to which requests have two fields of a program's own
+abbrev pub with_two : Address
+with_two = record elsewhere {
+  fields = (codes "api-key", codes "s3cret") ∷ (codes "X-Scope", codes "a \tb") ∷ [];
+}

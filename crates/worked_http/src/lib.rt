@@ -3,7 +3,7 @@
 //!
 //! - Requests and replies of OTLP over HTTP (crates `http_wire`, `otlp_http` and `otlp_serve`), and
 //!   the context of a trace in a request (`trace_context`).
-//! - Settings and the texts of resource attributes (`otel_settings`).
+//! - Settings, the texts of resource attributes and of headers (`otel_settings`).
 //! - Sampling by a ratio (`otlp_sampler`): thresholds, trace ids and texts.
 //!
 //! Each function without an argument is a group of examples. Its clauses are the examples, and it
@@ -14,6 +14,7 @@ pub mod chunks;
 pub mod contexts;
 pub mod devices;
 pub mod fields;
+pub mod headers;
 pub mod outcomes;
 pub mod places;
 pub mod posts;

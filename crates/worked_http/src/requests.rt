@@ -1,8 +1,8 @@
 //! The texts of requests (RFC 9112, sections 2.1, 3 and 5).
 
 ghost use Rattle.std.specs.Prelude.{◌≡◌, ◌++◌, [], codes, length, replicate};
-ghost use Rattle.otlp_http.specs.Request.{request_head, request_text};
-ghost use Rattle.worked_http.specs.Collectors.{elsewhere, local};
+ghost use Rattle.otlp_http.specs.Request.{kept_head, request_head, request_text};
+ghost use Rattle.worked_http.specs.Collectors.{elsewhere, local, with_two};
 
 /// The head of a request whose body has 70 bytes, and how long the whole request is.
 pub fn heads()
@@ -24,4 +24,16 @@ pub fn bodies()
         codes "POST /?q=~ HTTP/1.1\r\nHost: a-1.test:0\r\n" ++
         codes "Content-Type: application/x-protobuf\r\nContent-Length: 6\r\n" ++
         codes "Connection: close\r\n\r\nA: b\r\n" }
+{}
+
+/// Fields of a program's own come after those of the kit, in their order.
+pub fn own_fields()
+    ensures closed { request_text with_two (codes "A: b\r\n") ≡
+        codes "POST /?q=~ HTTP/1.1\r\nHost: a-1.test:0\r\n" ++
+        codes "Content-Type: application/x-protobuf\r\nContent-Length: 6\r\n" ++
+        codes "Connection: close\r\napi-key: s3cret\r\nX-Scope: a \tb\r\n\r\nA: b\r\n" }
+    ensures kept { kept_head with_two 0 ≡
+        codes "POST /?q=~ HTTP/1.1\r\nHost: a-1.test:0\r\n" ++
+        codes "Content-Type: application/x-protobuf\r\nContent-Length: 0\r\n" ++
+        codes "Connection: keep-alive\r\napi-key: s3cret\r\nX-Scope: a \tb\r\n\r\n" }
 {}

@@ -10,9 +10,10 @@ ghost use Rattle.otel_settings.specs.Resources.{resource_faults, resource_of};
 ghost use Rattle.model_span.specs.Attributes.{text};
 ghost use Rattle.otel_settings.specs.Samplers.{ratio, sampler, sampler_faults, sampler_of};
 ghost use Rattle.otel_settings.specs.Endpoints.{endpoint};
-ghost use Rattle.otel_settings.specs.Unsupported.{form_faults, header_faults, selection_faults};
+ghost use Rattle.otel_settings.specs.Unsupported.{form_faults, selection_faults};
 ghost use Rattle.otel_settings.specs.Unsupported.{tls_faults};
 ghost use Rattle.otel_settings.specs.Settings.{desk_of, desk_faults};
+ghost use Rattle.worked_http.specs.Collectors.{place};
 
 /// A variable is set to the value of its last pair, unless that is empty.
 #[tactic(auto, unfolding(otel_settings::specs::Pairs::text_set, otel_settings::specs::Pairs::last_of, otel_settings::specs::Variables::name_of))]
@@ -98,6 +99,7 @@ pub fn samplers_with_arguments()
           variable = variables.TracesSamplerArg;
           text = codes "25%";
           instead = instead.RatioOne;
+          cause = None;
         } ∷ [] }
     ensures ignored { sampler_faults [] (
         (codes "OTEL_TRACES_SAMPLER", codes "always_off")
@@ -122,6 +124,7 @@ pub fn resources()
           variable = variables.ResourceAttributes;
           text = codes "k=v,k";
           instead = instead.NoAttributes;
+          cause = None;
         } ∷ [] }
 {}
 
@@ -129,15 +132,15 @@ pub fn resources()
 #[tactic(auto, unfolding(otel_settings::specs::Endpoints::endpoint, otel_settings::specs::Endpoints::after_scheme, otel_settings::specs::Endpoints::after_text, otel_settings::specs::Endpoints::host_of, otel_settings::specs::Endpoints::port_in, otel_settings::specs::Endpoints::target_path, otel_settings::specs::Endpoints::traces_path, otel_settings::specs::Endpoints::allowed, otel_settings::specs::Readings::number_in, text_words::specs::Words::number_below))]
 pub fn endpoints()
     ensures base { endpoint true (codes "http://collector:4318") ≡ Some
-        (record { host = codes "collector"; port = 4318; path = codes "/v1/traces" }) }
+        (place (codes "collector") 4318 (codes "/v1/traces")) }
     ensures base_with_path { endpoint true (codes "http://collector:4318/mycollector/") ≡ Some
-        (record { host = codes "collector"; port = 4318; path = codes "/mycollector/v1/traces" }) }
+        (place (codes "collector") 4318 (codes "/mycollector/v1/traces")) }
     ensures base_without_slash { endpoint true (codes "http://collector:4318/mycollector") ≡ Some
-        (record { host = codes "collector"; port = 4318; path = codes "/mycollector/v1/traces" }) }
+        (place (codes "collector") 4318 (codes "/mycollector/v1/traces")) }
     ensures of_traces { endpoint false (codes "http://collector:4318/t") ≡ Some
-        (record { host = codes "collector"; port = 4318; path = codes "/t" }) }
+        (place (codes "collector") 4318 (codes "/t")) }
     ensures root { endpoint false (codes "http://collector") ≡ Some
-        (record { host = codes "collector"; port = 80; path = codes "/" }) }
+        (place (codes "collector") 80 (codes "/")) }
     ensures other_scheme { endpoint true (codes "https://collector:4318") ≡ None }
     ensures no_scheme { endpoint true (codes "collector:4318") ≡ None }
     ensures no_host { endpoint true (codes "http://:4318") ≡ None }
@@ -149,17 +152,17 @@ pub fn endpoints()
 #[tactic(auto, unfolding(otel_settings::specs::Endpoints::endpoint, otel_settings::specs::Endpoints::after_scheme, otel_settings::specs::Endpoints::after_text, otel_settings::specs::Endpoints::host_of, otel_settings::specs::Endpoints::port_in, otel_settings::specs::Endpoints::target_path, otel_settings::specs::Endpoints::traces_path, otel_settings::specs::Endpoints::allowed, otel_settings::specs::Readings::number_in, text_words::specs::Words::number_below))]
 pub fn parts_of_endpoints()
     ensures capitals { endpoint false (codes "HTTP://my_collector/") ≡ Some
-        (record { host = codes "my_collector"; port = 80; path = codes "/" }) }
+        (place (codes "my_collector") 80 (codes "/")) }
     ensures loopback { endpoint true (codes "http://[::1]:4318") ≡ Some
-        (record { host = codes "[::1]"; port = 4318; path = codes "/v1/traces" }) }
+        (place (codes "[::1]") 4318 (codes "/v1/traces")) }
     ensures no_port { endpoint false (codes "http://[fe80::1]/t") ≡ Some
-        (record { host = codes "[fe80::1]"; port = 80; path = codes "/t" }) }
+        (place (codes "[fe80::1]") 80 (codes "/t")) }
     ensures query { endpoint false (codes "http://collector/t?a=b/c:d") ≡ Some
-        (record { host = codes "collector"; port = 80; path = codes "/t?a=b/c:d" }) }
+        (place (codes "collector") 80 (codes "/t?a=b/c:d")) }
     ensures base_with_query { endpoint true (codes "http://collector?a=b") ≡ Some
-        (record { host = codes "collector"; port = 80; path = codes "/v1/traces?a=b" }) }
+        (place (codes "collector") 80 (codes "/v1/traces?a=b")) }
     ensures empty_query { endpoint false (codes "http://collector/t?") ≡ Some
-        (record { host = codes "collector"; port = 80; path = codes "/t" }) }
+        (place (codes "collector") 80 (codes "/t")) }
     ensures open_bracket { endpoint false (codes "http://[::1") ≡ None }
     ensures no_bracket { endpoint false (codes "http://::1") ≡ None }
     ensures after_bracket { endpoint false (codes "http://[::1]4318") ≡ None }
@@ -170,7 +173,7 @@ pub fn parts_of_endpoints()
 {}
 
 /// Variables that ask for what there isn't: each other value is a fault.
-#[tactic(auto, unfolding(otel_settings::specs::Unsupported::other_faults, otel_settings::specs::Unsupported::selection_faults, otel_settings::specs::Unsupported::form_faults, otel_settings::specs::Unsupported::tls_faults, otel_settings::specs::Unsupported::header_faults, otel_settings::specs::Pairs::text_set, otel_settings::specs::Pairs::last_of, otel_settings::specs::Variables::name_of))]
+#[tactic(auto, unfolding(otel_settings::specs::Unsupported::other_faults, otel_settings::specs::Unsupported::selection_faults, otel_settings::specs::Unsupported::form_faults, otel_settings::specs::Unsupported::tls_faults, otel_settings::specs::Pairs::text_set, otel_settings::specs::Pairs::last_of, otel_settings::specs::Variables::name_of))]
 pub fn unsupported()
     ensures unset { form_faults [] [] ≡ [] }
     ensures only { form_faults []
@@ -181,6 +184,7 @@ pub fn unsupported()
           variable = variables.OtlpProtocol;
           text = codes "grpc";
           instead = instead.HttpProtobuf;
+          cause = None;
         } ∷ [] }
     ensures propagators { selection_faults []
         ((codes "OTEL_PROPAGATORS", codes "tracecontext,baggage") ∷ [])
@@ -188,13 +192,7 @@ pub fn unsupported()
           variable = variables.Propagators;
           text = codes "tracecontext,baggage";
           instead = instead.TraceContext;
-        } ∷ [] }
-    ensures headers { header_faults []
-        ((codes "OTEL_EXPORTER_OTLP_TRACES_HEADERS", codes "a=b") ∷ [])
-        ≡ record {
-          variable = variables.OtlpTracesHeaders;
-          text = codes "a=b";
-          instead = instead.NoHeaders;
+          cause = None;
         } ∷ [] }
     ensures certificate { tls_faults []
         ((codes "OTEL_EXPORTER_OTLP_CERTIFICATE", codes "a.pem") ∷ [])
@@ -202,6 +200,7 @@ pub fn unsupported()
           variable = variables.OtlpCertificate;
           text = codes "a.pem";
           instead = instead.PlainHttp;
+          cause = None;
         } ∷ [] }
 {}
 
@@ -217,6 +216,7 @@ pub fn queues()
           variable = variables.BspMaxQueueSize;
           text = codes "65537";
           instead = instead.Number 2048;
+          cause = None;
         } ∷ [] }
     ensures large_batch { desk_faults [] (
         (codes "OTEL_BSP_MAX_QUEUE_SIZE", codes "100")
@@ -225,5 +225,6 @@ pub fn queues()
           variable = variables.BspMaxExportBatchSize;
           text = codes "101";
           instead = instead.Number 100;
+          cause = None;
         } ∷ [] }
 {}
