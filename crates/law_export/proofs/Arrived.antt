@@ -13,7 +13,12 @@ use Rattle.law_export.proofs.Judged.{Stands}
 -- An address for traces is its host and port with the path of traces written out.
 written_out : (address : Address) → IsForTraces address
     → address ≡ traces_at address.host address.port
-written_out address is = λ i. record { host = address.host; port = address.port; path = is.path i }
+written_out address is = λ i. record {
+  host = address.host;
+  port = address.port;
+  path = is.path i;
+  fields = is.plain i;
+}
 
 -- No read failed where none had failed before or after.
 pub never_failed : ¬ (HasFailed 0 0)

@@ -1,6 +1,6 @@
 -- The request's head, as a tree.
 use Rattle.std.proofs.Common.{◌≡◌, ℕ, ◌<◌, List, [], ◌∷◌, ◌++◌, nat_lt, true, length, refl, sym, ap}
-use Rattle.std.proofs.Common.{◌∙◌, IsTrue, arith, codes, append_assoc}
+use Rattle.std.proofs.Common.{◌∙◌, IsTrue, arith, codes, append-nil, append_assoc}
 use Rattle.std.specs.Prelude.{All, decimal}
 use Rattle.std.specs.List.{list_all}
 use Rattle.std.proofs.lemmas.Bool.{and_parts, ltb-true}
@@ -12,7 +12,8 @@ use Rattle.std.proofs.lemmas.Bool.Decides.{nat_tests}
 use Rattle.httparse.specs.Grammar.{crlf, Field, IsField, is_token_byte, is_uri_byte, is_value_byte}
 use Rattle.httparse.specs.Grammar.{is_token, RequestHead, IsRequestHead, print_request}
 use Rattle.httparse.proofs.OnLiterals.{httparse_on_literals}
-use Rattle.otlp_http.specs.Request.{request_head}
+use Rattle.otlp_http.specs.Address.{Address}
+use Rattle.otlp_http.specs.Request.{first_lines, request_head}
 use Rattle.law_export.proofs.Bytes.{all_four, is_visible, AreVisible, value_bytes}
 
 abbrev pub field : List ℕ → List ℕ → Field
@@ -75,11 +76,14 @@ regroup a b c d = sym (append_assoc (a ++ b) c d ∙ append_assoc a b (c ++ d))
 -- The head prints as the head that the client writes.
 pub head_text : (host : List ℕ) (port size : ℕ)
     → print_request (head (host_of host port) (decimal size))
-    ≡ request_head (record { host = host; port = port; path = traces }) size
+    ≡ request_head (record { host = host; port = port; path = traces; fields = [] }) size
 unfolding httparse_on_literals request_head
 head_text host port size =
+    let address : Address = record { host = host; port = port; path = traces; fields = [] } in
+    let first : List ℕ = first_lines address size ++ close_line in
     ap (λ t. front ++ (t ++ return))
     (regroup (host_of host port ++ return) media_line (size_line (decimal size)) close_line)
+    ∙ ap (λ t. t ++ return) (sym (append-nil first))
 
 -- ---- it is a request's head
 

@@ -1,5 +1,5 @@
 -- The request that carries a body is a request, which isn't refused.
-use Rattle.std.proofs.Common.{◌≡◌, ℕ, ◌<◌, ◌≤◌, ◌^◌, IsTrue, List, ◌++◌, length, refl, sym, ap}
+use Rattle.std.proofs.Common.{◌≡◌, ℕ, ◌<◌, ◌≤◌, ◌^◌, IsTrue, List, [], ◌++◌, length, refl, sym, ap}
 use Rattle.std.proofs.Common.{subst, ◌∙◌, codes, Some, None, Ok}
 use Rattle.std.specs.Prelude.{decimal}
 use Rattle.std.proofs.lemmas.List.Elements.{All-append, All-push}
@@ -17,9 +17,9 @@ use Rattle.law_export.proofs.Bytes.{is_visible, AreVisible, decimal_bytes, lengt
 use Rattle.law_export.proofs.Heads.{head, head_is, head_text, host_of, traces}
 use Rattle.law_export.proofs.RequestFields.{all_taken, fields_are, framing_is, kept, keeps, pairs}
 
--- an address of traces
+-- an address of traces, to which requests have no fields of a program's own
 abbrev pub traces_at : List ℕ → ℕ → Address
-traces_at host port = record { host = host; port = port; path = traces }
+traces_at host port = record { host = host; port = port; path = traces; fields = [] }
 
 -- the request, as a collector sees it
 abbrev pub post : List ℕ → ℕ → List ℕ → HttpPost

@@ -51,9 +51,15 @@ comes = record {
   whole = refl;
   sound = never_failed;
   address_is = record {
-    target = record { host = refl; path = refl; short = omega arith };
+    target = record {
+      host = refl;
+      path = refl;
+      fields = record { valid = refl; short = leb-true 0 8192 refl };
+      short = omega arith;
+    };
     port = omega arith;
     path = refl;
+    plain = refl;
   };
   allowed = allowed;
 }

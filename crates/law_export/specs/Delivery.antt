@@ -1,6 +1,6 @@
 -- One batch, end to end: the request that carries its body comes to a collector, which answers it.
 -- (OTLP Specification, OTLP/HTTP; opentelemetry-proto, trace_service.proto)
-use Rattle.std.specs.Prelude.{◌≡◌, ℕ, ◌^◌, ◌<◌, ◌≤◌, ◌⊎◌, List, ◌++◌, length, take, codes}
+use Rattle.std.specs.Prelude.{◌≡◌, ℕ, ◌^◌, ◌<◌, ◌≤◌, ◌⊎◌, List, [], ◌++◌, length, take, codes}
 use Rattle.std.specs.Prelude.{Option, Some, None}
 use Rattle.std.specs.Io.KnownBytes.{Appends}
 use Rattle.model_message.specs.Reading.{Reads}
@@ -32,12 +32,13 @@ use Rattle.otlp_collector.specs.declared.canned.Canned.{Canned}
 abbrev pub Carries : List ℕ → List SpanData → Type 0
 Carries body spans = Reads (body_meaning body) (grouped_triples spans)
 
--- A target whose path is that of traces. A port has 16 bits. (OTLP Specification, OTLP/HTTP
--- Request)
+-- A target whose path is that of traces, and whose requests have no fields of a program's own. A
+-- port has 16 bits. (OTLP Specification, OTLP/HTTP Request)
 pub record IsForTraces (address : Address) : Type 0 where
   pub target : IsTarget address
   pub port : address.port < 2 ^ 16
   pub path : address.path ≡ codes "/v1/traces"
+  pub plain : address.fields ≡ []
 
 -- The limits allow the request: the bytes of its head, the four fields that it has, and the bytes
 -- of its body. A body's length is reported in 64 bits. (profile)

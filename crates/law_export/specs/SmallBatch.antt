@@ -12,7 +12,8 @@ batch = span_a [] ∷ []
 
 -- where a collector listens by default (OTLP Specification, OTLP/HTTP Default Port)
 abbrev pub local : Address
-local = record { host = codes "127.0.0.1"; port = 4318; path = codes "/v1/traces" }
+local =
+    record { host = codes "127.0.0.1"; port = 4318; path = codes "/v1/traces"; fields = [] }
 
 -- the limits of a collector that allows bodies of 70 bytes
 abbrev pub small : HeadLimits
