@@ -6,3 +6,4 @@ mod fixture;
 mod serving;
 mod starting;
 mod stopping;
+mod tracing;
