@@ -99,10 +99,10 @@ fn of_eight_threads_each_span_is_handed_dropped_or_not_started(rt: HostRuntime) 
         let of_thread = output.expect(&rt, "memory");
         not_started = not_started.saturating_add(of_thread);
     }
-    // 2 * (100 - 0), 2 * (100 - 10) and so on.
-    assert_equal(&rt, not_started, 1040);
+    // Of 1,600 spans there are words for 2 * (0 + 10 + 20 and so on to 70).
+    assert_equal(&rt, not_started, 1600 - 560);
     let totals = served.desk.totals();
     let ended = totals.handed.saturating_add(totals.dropped.queue_full);
-    assert_equal(&rt, ended, 1600 - not_started);
+    assert_equal(&rt, ended, 560);
     assert_equal(&rt, (totals.left, totals.lost), (0, 0));
 }
