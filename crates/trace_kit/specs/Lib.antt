@@ -74,6 +74,7 @@ pub use Rattle.trace_run.specs.Report
 pub use Rattle.trace_run.specs.State
 pub use Rattle.trace_run.specs.Headline as RunHeadline
 pub use Rattle.otlp_http.specs.Address
+pub use Rattle.otlp_http.specs.Fields as RequestFields
 pub use Rattle.http_wire.specs.Devices
 pub use Rattle.otlp_http.specs.Request
 pub use Rattle.otlp_http.specs.Replies

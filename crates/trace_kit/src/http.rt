@@ -2,8 +2,9 @@
 //! which posts each body to a [`Target`] over TCP, and [`LinkExporter`], which does the same over
 //! any [`Dial`], perhaps with a [`Deadline`]; a [`KeptExporter`] keeps their connection for the
 //! next body. The [`Failure`] that each keeps a [`FailureWatch`] shows while a [`WatchedExporter`]
-//! works. Below them are the requests and replies, [`write_request`], [`read_reply`], and
-//! [`outcome_of`] for what a reply means.
+//! works. [`HeaderFields`] are fields of a program's own that each request to a target has. Below
+//! them are the requests and replies, [`write_request`], [`read_reply`], and [`outcome_of`] for what
+//! a reply means.
 pub use http_exporter::{
     Buffered, Countdown, DEFAULT_EXPORT_TIMEOUT_MS, Deadline, Dial, Failure, FailureWatch,
     HttpExporter, IdleStream, KeptExporter, KeptLink, LinkExporter, MESSAGE_ROOM, Message,
@@ -14,6 +15,7 @@ pub use http_wire::{
     MOST_FIELDS, Stopped,
 };
 pub use otlp_http::{
-    Connection, DEFAULT_PATH, DEFAULT_PORT, LastingReply, Reply, Target, TargetFault, outcome_of,
-    read_lasting_reply, read_reply, write_request, write_request_for,
+    Connection, DEFAULT_PATH, DEFAULT_PORT, HeaderFault, HeaderFields, LastingReply,
+    MOST_HEADER_BYTES, Reply, Target, TargetFault, outcome_of, read_lasting_reply, read_reply,
+    write_request, write_request_for,
 };
