@@ -1,7 +1,7 @@
 -- The order of spans by their starts.
 use Rattle.std.proofs.Common.{◌≡◌, ◌≢◌, sym, ◌∙◌, ap, subst, refl, ℕ, zero, suc, ◌+◌, ◌<◌, ◌≤◌, inl}
 use Rattle.std.proofs.Common.{inr, Bool, true, false, eqb, ltb, ◌||◌, ◌&&◌, List, [], ◌∷◌, ◌++◌}
-use Rattle.std.proofs.Common.{length, get_or, arith, All, AllPairs, Ordering}
+use Rattle.std.proofs.Common.{length, get_or, map, arith, All, AllPairs, Ordering}
 use Rattle.std.specs.List.{AllByRecursion as Each, range_with_len}
 use Rattle.std.specs.List.Sorted.{IsPermutation, IsSortedBy}
 use Rattle.std.specs.Ordering.{nat_cmp, is_lt, ordering_then}
@@ -9,11 +9,10 @@ use Rattle.std.specs.Cmp.{IsTotalOrder}
 use Rattle.std.proofs.lemmas.Cmp.{then_total, on_total, nat_cmp_total}
 use Rattle.std.proofs.lemmas.Bool.{cases_eq, cases_lt, cases_order, lt-ltb, le-ltb, eq-eqb, or_left}
 use Rattle.std.proofs.lemmas.Bool.{or_right, and_from, true≢false}
-use Rattle.std.proofs.lemmas.List.{get_or-map, map_push, length-map}
-use Rattle.std.proofs.lemmas.List.Elements.{All-push, All-nil}
+use Rattle.std.proofs.lemmas.List.{get_or-map, get_or_default, map_push, length-map}
+use Rattle.std.proofs.lemmas.List.FromFn.{get_or-range_with_len}
 use Rattle.std.proofs.lemmas.List.Sorted.{ranks_by, sorted_far, IsPermutation-map, All-permutation}
 use Rattle.trace_tree.specs.Order.{start_at, precedes, ArePlaces, places_of, AreStarts, AreByStart}
-use Rattle.trace_tree.specs.Steps.{AreStartsBefore}
 use Rattle.trace_tree.specs.declared.span.TreeSpan.{TreeSpan}
 use Rattle.trace_tree.proofs.Times.{times, times-same, times-other, times-place, times-past}
 use Rattle.trace_tree.proofs.Eaches.{Pairs, Pairs-map, Pairs-from_All, All-from_Pairs}
@@ -154,29 +153,43 @@ one_more i = omega arith
 none_more : (i : ℕ) → 0 + i ≡ i
 none_more i = omega arith
 
--- Before the first span, the list of starts is empty.
-pub starts_first : (spans : List TreeSpan) → AreStartsBefore spans 0 []
-starts_first spans =
-    record { places = refl; each = All-nil (λ (s : Start). s.0 ≡ start_at spans s.1) }
+-- The start of one more span, in the next place, makes the places one more.
+pub places_next : (starts : List Start) (i start : ℕ) → places_of starts ≡ range_with_len 0 i
+    → places_of (starts ++ (start, i) ∷ []) ≡ range_with_len 0 (i + 1)
+places_next starts i start is =
+    map_push (λ (s : Start). s.1) starts (start, i)
+    ∙ ap (λ l. l ++ i ∷ []) is
+    ∙ sym (ap (λ n. range_with_len 0 n) (one_more i) ∙ range_more 0 i
+    ∙ ap (λ k. range_with_len 0 i ++ k ∷ []) (none_more i))
 
--- After the start of one more span, the list has the starts of the spans so far.
-pub starts_more : (spans : List TreeSpan) (i : ℕ) (starts : List Start) (d : TreeSpan)
-    → AreStartsBefore spans i starts → i < length spans
-    → AreStartsBefore spans (i + 1) (starts ++ ((get_or spans i d).start_time_unix_nano, i) ∷ [])
-starts_more spans i starts d h within = record {
-  places =
-      map_push (λ (s : Start). s.1) starts ((get_or spans i d).start_time_unix_nano, i)
-      ∙ ap (λ l. l ++ i ∷ []) h.places
-      ∙ sym (ap (λ n. range_with_len 0 n) (one_more i) ∙ range_more 0 i
-      ∙ ap (λ k. range_with_len 0 i ++ k ∷ []) (none_more i));
-  each =
-      All-push (λ (s : Start). s.0 ≡ start_at spans s.1) starts
-      ((get_or spans i d).start_time_unix_nano, i) h.each
-      (sym (get_or-map (λ (s : TreeSpan). s.start_time_unix_nano) spans i d 0 within));
+-- Starts in the order of their places are those of the spans if they are so one by one.
+pub starts_each : (spans : List TreeSpan) (starts : List Start)
+    → places_of starts ≡ range_with_len 0 (length spans)
+    → map (λ (s : Start). s.0) starts ≡ map (λ (s : TreeSpan). s.start_time_unix_nano) spans
+    → AreStarts spans starts
+starts_each spans starts places same = record {
+  places = places;
+  each = λ i d within.
+      let small : i < length spans = omega (
+        arith,
+        within,
+        length-map starts (λ (s : Start). s.0),
+        ap length same,
+        length-map spans (λ (s : TreeSpan). s.start_time_unix_nano),
+      ) in
+      sym (get_or-map (λ (s : Start). s.0) starts i d d.0 within)
+      ∙ at i d.0 small
+      ∙ ap (start_at spans)
+      (sym (sym (get_or-map (λ (s : Start). s.1) starts i d d.1 within)
+      ∙ ap (λ l. get_or l i d.1) places ∙ get_or-range_with_len 0 (length spans) i d.1 small
+      ∙ none_more i));
 }
-
--- Once all spans are done, the list has the starts of all spans.
-pub starts_all : (spans : List TreeSpan) (i : ℕ) (starts : List Start)
-    → AreStartsBefore spans i starts → i ≡ length spans → AreStarts spans starts
-starts_all spans i starts h e =
-    record { places = h.places ∙ ap (λ n. range_with_len 0 n) e; each = h.each }
+  where
+    at : (i d : ℕ) → i < length spans
+        → get_or (map (λ (s : Start). s.0) starts) i d ≡ start_at spans i
+    at i d small =
+        let long : i < length (map (λ (s : TreeSpan). s.start_time_unix_nano) spans) =
+        subst (λ n. i < n) (sym (length-map spans (λ (s : TreeSpan). s.start_time_unix_nano))) small
+        in
+        ap (λ l. get_or l i d) same
+        ∙ get_or_default (map (λ (s : TreeSpan). s.start_time_unix_nano) spans) i d 0 long

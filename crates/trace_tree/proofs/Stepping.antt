@@ -1,143 +1,208 @@
 -- Spans that are arranged in steps.
-use Rattle.std.proofs.Common.{◌≡◌, sym, ap, subst, ◌∙◌, ℕ, ◌+◌, ◌<◌, List, [], ◌∷◌, ◌++◌, length}
-use Rattle.std.proofs.Common.{map, take, get_or, inl, inr, Option, Some, Bool, arith}
+use Rattle.std.proofs.Common.{◌≡◌, refl, sym, ap, subst, ◌∙◌, ℕ, zero, suc, ◌+◌, ◌<◌, ltb, List, []}
+use Rattle.std.proofs.Common.{◌∷◌, ◌++◌, length, map, take, get_or, inl, inr, Option, Some, None}
+use Rattle.std.proofs.Common.{Bool}
+use Rattle.std.proofs.Common.{append_assoc, arith, drop}
 use Rattle.std.specs.Prelude.{slice_get}
-use Rattle.std.proofs.lemmas.List.{get_or-map, length-map, map_more, take_all}
-use Rattle.std.proofs.lemmas.List.FromFn.{length-range_with_len}
-use Rattle.std.proofs.lemmas.Option.{get_or_from_slice_get, none-some, slice_get_within}
+use Rattle.std.specs.List.{range_with_len}
+use Rattle.std.specs.List.Sorted.{IsPermutation}
+use Rattle.std.proofs.lemmas.Bool.{cond-true, lt-ltb, ltb-true}
+use Rattle.std.proofs.lemmas.List.{drop_more, get_or-map, length-map, map_more, map_push}
+use Rattle.std.proofs.lemmas.List.{take_all}
+use Rattle.std.proofs.lemmas.List.Sorted.{IsPermutation-map, IsPermutation-refl}
+use Rattle.std.proofs.lemmas.List.Sorted.{IsPermutation-trans}
+use Rattle.std.proofs.lemmas.Option.{cond_some, get_or_from_slice_get, none-some, slice_get_within}
 use Rattle.trace_tree.specs.Cycles.{AreInList, IsTree}
-use Rattle.trace_tree.specs.Order.{places_of}
-use Rattle.trace_tree.specs.Parents.{names_none, parent_of, parents_of}
+use Rattle.trace_tree.specs.Opens.{IsSound, OpenTree}
+use Rattle.trace_tree.specs.Order.{AreStarts, places_of}
+use Rattle.trace_tree.specs.Parents.{names_none, parent_at, parent_of, parents_of}
 use Rattle.trace_tree.specs.Rows.{AreRowsOf}
-use Rattle.trace_tree.specs.Steps.{AreArranged, AreFirst, AreOrdered, AreStartsBefore, kin_of}
+use Rattle.trace_tree.specs.Steps.{AreArranged, AreFirst, AreOrdered, kin_of, parent_in, parents_in}
+use Rattle.trace_tree.specs.declared.span.Place.{Place}
 use Rattle.trace_tree.specs.declared.span.Row.{Row}
 use Rattle.trace_tree.specs.declared.span.TreeSpan.{TreeSpan}
 use Rattle.trace_tree.specs.declared.steps.Arranging.{Arranging}
 use Rattle.trace_tree.specs.declared.steps.Kin.{Kin}
-use Rattle.trace_tree.specs.declared.steps.Opened.{Opened}
 use Rattle.trace_tree.proofs.Arranged.{Facts, arranged_nested, arranged_once, arranged_ordered}
 use Rattle.trace_tree.proofs.Arranged.{arranged_places, parents_length}
 use Rattle.trace_tree.proofs.Ids.{nobody, parents_in_list}
-use Rattle.trace_tree.proofs.Starts.{starts_first, starts_more}
+use Rattle.trace_tree.proofs.Starts.{starts_each}
 
--- so many starts are known
-pub starts_count : (spans : List TreeSpan) (at : ℕ) (starts : List (ℕ × ℕ))
-    → AreStartsBefore spans at starts → length starts ≡ at
-starts_count spans at starts h =
-    sym (length-map starts (λ (s : ℕ × ℕ). s.1)) ∙ ap length h.places ∙ length-range_with_len 0 at
-
--- one more of what is known of each
-one_more : {X : Type 0} (f : TreeSpan → X) (spans : List TreeSpan) (at : ℕ) (span : TreeSpan)
-    (old new : List X) (x : X)
-    → slice_get spans at ≡ Some span
-    → x ≡ f span → old ≡ map f (take at spans) → new ≡ old ++ x ∷ []
-    → new ≡ map f (take (at + 1) spans)
-one_more f spans at span old new x found is had more =
-    more
-    ∙ ap (λ l. l ++ x ∷ []) had
-    ∙ ap (λ y. map f (take at spans) ++ y ∷ [])
-    (is ∙ ap f (sym (get_or_from_slice_get spans at span span found)))
-    ∙ sym (map_more f spans at span (slice_get_within spans at span found))
+-- a list is mapped twice at once
+pub map_twice : {X Y Z : Type 0} (g : Y → Z) (f : X → Y) (xs : List X)
+    → map g (map f xs) ≡ map (λ x. g (f x)) xs
+map_twice g f [] = refl
+map_twice g f (x ∷ xs) = ap (λ l. g (f x) ∷ l) (map_twice g f xs)
 
 -- one more span
 pub first_more : {A : Type 0} (spans : List TreeSpan) (at : ℕ) (span : TreeSpan) (kin : Kin)
-    (old new : Arranging A) (index : ℕ)
+    (old new : Arranging A)
     → AreFirst spans at old
-    → slice_get spans at ≡ Some span → kin ≡ kin_of spans span → index ≡ length old.starts.items
-    → new.parents.items ≡ old.parents.items ++ kin.parent ∷ []
-    → new.roots.items ≡ old.roots.items ++ kin.names_none ∷ []
-    → new.starts.items ≡ old.starts.items ++ (kin.start_time_unix_nano, index) ∷ []
+    → slice_get spans at ≡ Some span → kin ≡ kin_of spans span
+    → new.kins.items ≡ old.kins.items ++ kin ∷ []
     → AreFirst spans (at + 1) new
-first_more spans at span kin old new index h found is count parents roots starts = record {
-  parents =
-      one_more (parent_of spans) spans at span old.parents.items new.parents.items kin.parent found
-      (ap (λ (k : Kin). k.parent) is) h.parents parents;
-  roots =
-      one_more names_none spans at span old.roots.items new.roots.items kin.names_none found
-      (ap (λ (k : Kin). k.names_none) is) h.roots roots;
-  starts =
-      subst (AreStartsBefore spans (at + 1))
-      (sym (starts ∙ ap (λ s. old.starts.items ++ s ∷ []) here))
-      (starts_more spans at old.starts.items span h.starts (slice_get_within spans at span found));
+first_more spans at span kin old new h found is more = record {
+  kins =
+      more
+      ∙ ap (λ l. l ++ kin ∷ []) h.kins
+      ∙ ap (λ k. map (kin_of spans) (take at spans) ++ k ∷ [])
+      (is ∙ ap (kin_of spans) (sym (get_or_from_slice_get spans at span span found)))
+      ∙ sym (map_more (kin_of spans) spans at span (slice_get_within spans at span found));
 }
-  where
-    here : ◌≡◌ {A = ℕ × ℕ} (kin.start_time_unix_nano, index)
-        ((get_or spans at span).start_time_unix_nano, at)
-    here =
-        ap (λ s. (s, index))
-        (ap (λ (k : Kin). k.start_time_unix_nano) is
-        ∙ ap (λ (s : TreeSpan). s.start_time_unix_nano)
-        (sym (get_or_from_slice_get spans at span span found)))
-        ∙ ap (λ n. ((get_or spans at span).start_time_unix_nano, n))
-        (count ∙ starts_count spans at old.starts.items h.starts)
 
--- none yet
-pub none_known : {A : Type 0} (spans : List TreeSpan) (known : Arranging A)
-    → known.parents.items ≡ [] → known.roots.items ≡ [] → known.starts.items ≡ []
-    → AreFirst spans 0 known
-none_known spans known parents roots starts = record {
-  parents = parents;
-  roots = roots;
-  starts = subst (AreStartsBefore spans 0) (sym starts) (starts_first spans);
+-- ---- parents that are in the list
+
+some_in : (n : ℕ) (o : Option ℕ) (p : ℕ) → parent_in n o ≡ Some p → p < n
+some_in n None p e = absurd (none-some p e)
+some_in n (Some q) p e =
+    let found = cond_some (ltb q n) q p e in
+    subst (λ k. k < n) found.1 (ltb-true q n found.0)
+
+each_in : (n : ℕ) (kins : List Kin) (k p : ℕ)
+    → parent_at (map (λ (it : Kin). parent_in n it.parent) kins) k ≡ Some p → p < n
+each_in n [] k p e = absurd (none-some p e)
+each_in n (x ∷ xs) zero p e = some_in n x.parent p e
+each_in n (x ∷ xs) (suc k) p e = each_in n xs k p e
+
+-- the parents that are left have places in the list
+pub kept_in_list : (kins : List Kin) → AreInList (parents_in kins)
+kept_in_list kins = record {
+  each = λ k p e. subst (λ n. p < n)
+      (sym (length-map kins (λ (it : Kin). parent_in (length kins) it.parent)))
+      (each_in (length kins) kins k p e);
 }
+
+kept : (n : ℕ) (o : Option ℕ) → ((p : ℕ) → o ≡ Some p → p < n) → parent_in n o ≡ o
+kept n None h = refl
+kept n (Some p) h = cond-true (ltb p n) (Some p) None (lt-ltb p n (h p refl))
+
+kept_all : (n : ℕ) (os : List (Option ℕ)) → ((k p : ℕ) → parent_at os k ≡ Some p → p < n)
+    → map (parent_in n) os ≡ os
+kept_all n [] h = refl
+kept_all n (o ∷ os) h =
+    ap (λ x. x ∷ map (parent_in n) os) (kept n o (λ p e. h 0 p e))
+    ∙ ap (λ l. o ∷ l) (kept_all n os (λ k p e. h (suc k) p e))
 
 module _ {A : Type 0} (spans : List TreeSpan) (known : Arranging A)
     (h : AreFirst spans (length spans) known) where
+  all_kins : known.kins.items ≡ map (kin_of spans) spans
+  all_kins = h.kins ∙ ap (map (kin_of spans)) (take_all (length spans) spans (omega arith))
+
+  many : length known.kins.items ≡ length spans
+  many = ap length all_kins ∙ length-map spans (kin_of spans)
+
   -- Once all spans are known, the parents are those of the list.
-  pub all_parents : known.parents.items ≡ parents_of spans
+  pub all_parents : parents_in known.kins.items ≡ parents_of spans
   unfolding parents_of
-  all_parents = h.parents ∙ ap (map (parent_of spans)) (take_all (length spans) spans (omega arith))
+  all_parents =
+      ap (λ n. map (λ (k : Kin). parent_in n k.parent) known.kins.items) many
+      ∙ ap (map (λ (k : Kin). parent_in (length spans) k.parent)) all_kins
+      ∙ map_twice (λ (k : Kin). parent_in (length spans) k.parent) (kin_of spans) spans
+      ∙ sym (map_twice (parent_in (length spans)) (parent_of spans) spans)
+      ∙ kept_all (length spans) (map (parent_of spans) spans)
+      (λ k p e. subst (λ n. p < n) (parents_length spans) ((parents_in_list spans).each k p e))
 
   -- Once all spans are known, it is known of each whether it names no parent.
-  pub all_roots : known.roots.items ≡ map names_none spans
-  all_roots = h.roots ∙ ap (map names_none) (take_all (length spans) spans (omega arith))
+  pub all_roots : map (λ (k : Kin). k.names_none) known.kins.items ≡ map names_none spans
+  all_roots =
+      ap (map (λ (k : Kin). k.names_none)) all_kins
+      ∙ map_twice (λ (k : Kin). k.names_none) (kin_of spans) spans
 
-  -- The parents that are known are places in the list.
-  pub all_in_list : AreInList known.parents.items
-  all_in_list = subst AreInList (sym all_parents) (parents_in_list spans)
+  -- Once all spans are known, their starts are.
+  pub all_starts : (starts : List (ℕ × ℕ))
+      → places_of starts ≡ range_with_len 0 (length known.kins.items)
+      → map (λ (s : ℕ × ℕ). s.0) starts
+      ≡ map (λ (k : Kin). k.start_time_unix_nano) known.kins.items
+      → AreStarts spans starts
+  all_starts starts places each =
+      starts_each spans starts (places ∙ ap (range_with_len 0) many)
+      (each
+      ∙ ap (map (λ (k : Kin). k.start_time_unix_nano)) all_kins
+      ∙ map_twice (λ (k : Kin). k.start_time_unix_nano) (kin_of spans) spans)
 
-  -- Once all spans are known, as many parents are known as there are spans.
-  pub as_many : length known.parents.items ≡ length known.roots.items
-  as_many =
-      ap length all_parents ∙ parents_length spans
-      ∙ sym (ap length all_roots ∙ length-map spans names_none)
+-- the start of one more span is noted, and those after it are left
+pub starts_step : (kins : List Kin) (i : ℕ) (d : Kin) (old new : List (ℕ × ℕ))
+    → i < length kins
+    → new ≡ old ++ ((get_or kins i d).start_time_unix_nano, i) ∷ []
+    → map (λ (s : ℕ × ℕ). s.0) old
+    ++ map (λ (k : Kin). k.start_time_unix_nano) (drop i kins)
+    ≡ map (λ (k : Kin). k.start_time_unix_nano) kins
+    → map (λ (s : ℕ × ℕ). s.0) new
+    ++ map (λ (k : Kin). k.start_time_unix_nano) (drop (i + 1) kins)
+    ≡ map (λ (k : Kin). k.start_time_unix_nano) kins
+starts_step kins i d old new within more before =
+    let start = (get_or kins i d).start_time_unix_nano in
+    let after = map (λ (k : Kin). k.start_time_unix_nano) (drop (i + 1) kins) in
+    ap (λ l. map (λ (s : ℕ × ℕ). s.0) l ++ after) more
+    ∙ ap (λ l. l ++ after) (map_push (λ (s : ℕ × ℕ). s.0) old (start, i))
+    ∙ append_assoc (map (λ (s : ℕ × ℕ). s.0) old) (start ∷ []) after
+    ∙ ap (λ l. map (λ (s : ℕ × ℕ). s.0) old ++ map (λ (k : Kin). k.start_time_unix_nano) l)
+    (sym (drop_more kins i d within))
+    ∙ before
 
 -- the parents in a tree are in the list
-pub tree_in_list : (spans : List TreeSpan) (tree : List (Option ℕ)) → IsTree (parents_of spans) tree
+tree_in_list : (parents tree : List (Option ℕ)) → AreInList parents → IsTree parents tree
     → AreInList tree
-tree_in_list spans tree is = record {
+tree_in_list parents tree within is = record {
   each = λ k p e. subst (λ n. p < n) (sym is.opened.same_length) (elim (is.opened.each k) [
-    | inl same ↦ (parents_in_list spans).each k p (sym same ∙ e)
+    | inl same ↦ within.each k p (sym same ∙ e)
     | inr cut ↦ absurd (none-some p (sym cut.0 ∙ e))
   ]);
 }
 
--- The tree has as many spans as the list.
-pub tree_length : (spans : List TreeSpan) (tree : List (Option ℕ)) → IsTree (parents_of spans) tree
-    → length tree ≡ length spans
-tree_length spans tree is = is.opened.same_length ∙ parents_length spans
+-- a tree of parents in the list is sound
+pub sound : (kins : List Kin) (tree : List (Option ℕ)) (places : List Place)
+    (starts : List (ℕ × ℕ))
+    → IsTree (parents_in kins) tree
+    → length places ≡ length kins → places_of starts ≡ range_with_len 0 (length kins)
+    → IsSound tree places starts
+sound kins tree places starts is many once =
+    let count : length (parents_in kins) ≡ length kins =
+    length-map kins (λ (it : Kin). parent_in (length kins) it.parent) in
+    let size : length tree ≡ length kins = is.opened.same_length ∙ count in
+    record {
+      in_list = tree_in_list (parents_in kins) tree (kept_in_list kins) is;
+      as_many = many ∙ sym size;
+      each_once =
+          subst (λ l. IsPermutation (range_with_len 0 (length tree)) l)
+          (ap (range_with_len 0) size ∙ sym once)
+          (IsPermutation-refl (range_with_len 0 (length tree)));
+      ends = λ k within. is.ends k (subst (λ n. k < n) (is.opened.same_length) within);
+    }
+
+-- a sort leaves it so
+pub sound_sorted : (tree : List (Option ℕ)) (places : List Place) (old new : List (ℕ × ℕ))
+    → IsSound tree places old → IsPermutation old new → IsSound tree places new
+sound_sorted tree places old new h moved = record {
+  in_list = h.in_list;
+  as_many = h.as_many;
+  each_once =
+      IsPermutation-trans (range_with_len 0 (length tree)) (places_of old) (places_of new)
+      h.each_once (IsPermutation-map (λ (s : ℕ × ℕ). s.1) old new moved);
+  ends = h.ends;
+}
 
 -- the rows of the tree of these spans are those of the spans
-pub arranged : {A : Type 0} (spans : List TreeSpan) (known : Opened A) (rows : List Row)
+pub arranged : (spans : List TreeSpan) (known : OpenTree) (rows : List Row)
     → AreOrdered spans known
-    → AreRowsOf known.tree.items known.places.items (places_of known.starts.items) rows
+    → AreRowsOf known.tree known.places (places_of known.starts) rows
     → AreArranged spans rows
 arranged spans known rows h made =
-    let fact : Facts spans known.tree.items known.places.items (places_of known.starts.items) =
+    let fact : Facts spans known.tree known.places (places_of known.starts) =
     record { is_tree = h.is_tree; placed = h.placed; by_start = h.by_start } in
     record {
       each_once =
-          arranged_once spans known.tree.items known.places.items
-          (places_of known.starts.items) rows fact made;
+          arranged_once spans known.tree known.places
+          (places_of known.starts) rows fact made;
       places =
-          arranged_places spans known.tree.items known.places.items
-          (places_of known.starts.items) rows fact made;
+          arranged_places spans known.tree known.places
+          (places_of known.starts) rows fact made;
       nested =
-          arranged_nested spans known.tree.items known.places.items
-          (places_of known.starts.items) rows fact made;
+          arranged_nested spans known.tree known.places
+          (places_of known.starts) rows fact made;
       ordered =
-          arranged_ordered spans known.tree.items known.places.items
-          (places_of known.starts.items) rows fact made;
+          arranged_ordered spans known.tree known.places
+          (places_of known.starts) rows fact made;
     }
 
 -- what the place of a span goes by, by the parents of all

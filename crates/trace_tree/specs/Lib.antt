@@ -1,5 +1,6 @@
 pub mod Parents
 pub mod Cycles
+pub mod Opens
 pub mod Steps
 pub mod Walks
 pub mod Order

@@ -2,11 +2,14 @@
 
 ghost use Rattle.std.specs.Prelude.{◌≡◌, ℕ, ◌+◌, List, [], Some, IfOk, OnOk, All, AllPairs};
 ghost use Rattle.std.specs.Prelude.{length, map, slice_get};
-ghost use Rattle.trace_tree.specs.Order.{ArePlaces};
+ghost use Rattle.std.specs.List.{range_with_len};
+ghost use Rattle.trace_tree.specs.Order.{ArePlaces, places_of};
 ghost use Rattle.trace_tree.specs.Parents.{parents_of};
 ghost use Rattle.trace_tree.specs.Rows.{AreInOrder, EachAfter, HangsInTree, IsPlace};
 ghost use Rattle.trace_tree.specs.Steps.{AreArranged, AreFirst, AreOpen, AreOrdered, kin_of};
+ghost use Rattle.trace_tree.specs.Steps.{parent_in, parents_in};
 ghost use Rattle.trace_tree.specs.declared.span.TreeSpan.{TreeSpan as Spanned};
+ghost use Rattle.trace_tree.specs.declared.steps.Kin.{Kin as Related};
 
 use crate::cycles::open_cycles;
 use crate::parents::find_parents;
@@ -14,6 +17,7 @@ use crate::span::{Place, Row, TreeSpan};
 use crate::tree::{places_of, rows_of};
 use otlp_ids::OutOfMemory;
 use std::alloc::Allocator;
+use std::marker::Model;
 
 /// What the place of a span in a tree goes by.
 #[derive(Debug, Clone, Copy)]
@@ -33,9 +37,7 @@ pub struct Kin {
 /// but for `add` take time for all spans, but look no identifier up.
 #[derive(Drop)]
 pub struct Arranging<A: Allocator> {
-    parents: Vec<Option<usize>, A>,
-    roots: Vec<bool, A>,
-    starts: Vec<(u64, usize), A>,
+    kins: Vec<Kin, A>,
 }
 
 impl<A: Allocator + Copy> Arranging<A> {
@@ -44,9 +46,7 @@ impl<A: Allocator + Copy> Arranging<A> {
         ensures { (spans : List Spanned) → AreFirst spans 0 result }
     {
         Arranging {
-            parents: Vec::new(alloc),
-            roots: Vec::new(alloc),
-            starts: Vec::new(alloc),
+            kins: Vec::new(alloc),
         }
     }
 
@@ -54,37 +54,76 @@ impl<A: Allocator + Copy> Arranging<A> {
     ///
     /// # Errors
     ///
-    /// `OutOfMemory` where memory was refused. What was known before is of no more use then.
+    /// `OutOfMemory` where memory was refused. Nothing changed then.
     pub fn add(&mut self, kin: Kin) -> Result<(), OutOfMemory>
         ensures { (spans : List Spanned) (at : ℕ) (span : Spanned) → AreFirst spans at self.old
             → slice_get spans at ≡ Some span → kin ≡ kin_of spans span
             → OnOk result (AreFirst spans (at + 1) self.new) }
     {
-        let index = self.starts.len();
-        self.parents.push(kin.parent)?;
-        self.roots.push(kin.names_none)?;
-        self.starts.push((kin.start_time_unix_nano, index))?;
-        Ok(())
+        Ok(self.kins.push(kin)?)
     }
 
-    /// Opens the cycles of parents, once all spans of the list are there.
+    /// Opens the cycles of parents, once all spans of the list are there. A parent without a place
+    /// in the list counts as none.
     ///
     /// # Errors
     ///
     /// `OutOfMemory` where memory was refused.
     pub fn open(self, alloc: A) -> Result<Opened<A>, OutOfMemory>
-        requires { (spans : List Spanned) × AreFirst spans (length spans) self }
         ensures { (spans : List Spanned) → AreFirst spans (length spans) self
             → IfOk result (AreOpen spans) }
     {
-        let tree = open_cycles(alloc, &self.parents)?;
-        let places = places_of(alloc, &self.roots, &self.parents, &tree)?;
+        let parents = parents_in(alloc, &self.kins)?;
+        let tree = open_cycles(alloc, &parents)?;
+        let places = places_of(alloc, &self.kins, &parents, &tree)?;
+        let starts = starts_of(alloc, &self.kins)?;
         Ok(Opened {
             tree,
             places,
-            starts: self.starts,
+            starts,
         })
     }
+}
+
+/// The parent in a list of so many spans, if it has a place there.
+fn parent_in(count: usize, parent: Option<usize>) -> Option<usize>
+    ensures { result ≡ parent_in count parent }
+{
+    match parent {
+        Some(place) if place < count => Some(place),
+        _ => None,
+    }
+}
+
+/// The parent of each span, where that is in the list.
+fn parents_in<A: Allocator + Copy>(
+    alloc: A,
+    kins: &[Kin],
+) -> Result<Vec<Option<usize>, A>, OutOfMemory>
+    ensures { IfOk result (λ parents. parents.items ≡ parents_in kins.now) }
+{
+    let mut parents = Vec::with_capacity(alloc, kins.len())?;
+    for kin in kins {
+        parents.push_reserved(parent_in(kins.len(), kin.parent));
+    }
+    Ok(parents)
+}
+
+/// When each span starts, and its place.
+fn starts_of<A: Allocator + Copy>(
+    alloc: A,
+    kins: &[Kin],
+) -> Result<Vec<(u64, usize), A>, OutOfMemory>
+    ensures places { IfOk result
+        (λ starts. places_of starts.items ≡ range_with_len 0 (length kins.now)) }
+    ensures each { IfOk result (λ starts. map (λ (s : ℕ × ℕ). s.0) starts.items
+        ≡ map (λ (k : Related). k.start_time_unix_nano) kins.now) }
+{
+    let mut starts = Vec::with_capacity(alloc, kins.len())?;
+    for (index, kin) in kins.iter().enumerate() {
+        starts.push_reserved((kin.start_time_unix_nano, index));
+    }
+    Ok(starts)
 }
 
 /// All spans of a list, without cycles of parents.
@@ -93,6 +132,20 @@ pub struct Opened<A: Allocator> {
     tree: Vec<Option<usize>, A>,
     places: Vec<Place, A>,
     starts: Vec<(u64, usize), A>,
+}
+
+impl<A: Allocator> Model for Opened<A> {
+    ghost use Rattle.trace_tree.specs.Opens.{IsSound, OpenTree};
+
+    ghost Value = { OpenTree };
+
+    ghost view = { λ a. record {
+      tree = a.tree.items;
+      places = a.places.items;
+      starts = a.starts.items;
+    } };
+
+    ghost invariant = { λ a. IsSound a.tree.items a.places.items a.starts.items };
 }
 
 impl<A: Allocator + Copy> Opened<A> {
@@ -114,7 +167,6 @@ impl<A: Allocator + Copy> Opened<A> {
     ///
     /// `OutOfMemory` where memory was refused.
     pub fn rows(&self, alloc: A) -> Result<Vec<Row, A>, OutOfMemory>
-        requires { (spans : List Spanned) × AreOrdered spans self.now }
         ensures { (spans : List Spanned) → AreOrdered spans self.now
             → IfOk result (λ rows. AreArranged spans rows.items) }
     {

@@ -9,9 +9,11 @@ ghost use Rattle.trace_tree.specs.Parents.{names_none};
 ghost use Rattle.trace_tree.specs.Rows.{ArePlaced, AreRowsOf};
 ghost use Rattle.trace_tree.specs.Rows.{place_by, row_at};
 ghost use Rattle.trace_tree.specs.declared.span.TreeSpan.{TreeSpan};
+ghost use Rattle.trace_tree.specs.declared.steps.Kin.{Kin as Related};
 
 use crate::order::group_by_parent;
 use crate::span::{Place, Row};
+use crate::steps::Kin;
 use otlp_ids::OutOfMemory;
 use std::alloc::Allocator;
 
@@ -41,18 +43,20 @@ fn top_place(names_none: bool) -> Place
 /// Why each span has its place.
 pub(crate) fn places_of<A: Allocator + Copy>(
     alloc: A,
-    roots: &[bool],
+    kins: &[Kin],
     parents: &[Option<usize>],
     tree: &[Option<usize>],
 ) -> Result<Vec<Place, A>, OutOfMemory>
-    requires parents { length parents.now ≡ length roots.now }
-    requires tree { length tree.now ≡ length roots.now }
-    ensures { IfOk result (λ places. (spans : List TreeSpan) → roots.now ≡ map names_none spans
+    requires parents { length parents.now ≡ length kins.now }
+    requires tree { length tree.now ≡ length kins.now }
+    ensures placed { IfOk result (λ places. (spans : List TreeSpan)
+        → map (λ (k : Related). k.names_none) kins.now ≡ map names_none spans
         → ArePlaced spans parents.now tree.now places.items) }
+    ensures as_many { IfOk result (λ places. length places.items ≡ length kins.now) }
 {
-    let mut places = Vec::with_capacity(alloc, roots.len())?;
-    for (index, names_none) in roots.iter().enumerate() {
-        places.push_reserved(place_of(*names_none, parents[index], tree[index]));
+    let mut places = Vec::with_capacity(alloc, kins.len())?;
+    for (index, kin) in kins.iter().enumerate() {
+        places.push_reserved(place_of(kin.names_none, parents[index], tree[index]));
     }
     Ok(places)
 }
