@@ -1,5 +1,5 @@
 //! What a traced service is started with.
-ghost use Rattle.std.specs.Prelude.{◌≡◌, ◌↔◌, ◌≤◌, ◌⊎◌, IfOk, IsErrOf, None, if◌then◌else◌, vec_len};
+ghost use Rattle.std.specs.Prelude.{◌≡◌, ◌↔◌, ◌<◌, ◌≤◌, ◌⊎◌, IfOk, IsErrOf, None, if◌then◌else◌, vec_len};
 ghost use Rattle.batch_desk.specs.Views.{config_view};
 ghost use Rattle.batch_processor.specs.declared.config.BatchConfig.{BatchConfig as Config};
 ghost use Rattle.batch_service.specs.Service.{EndsServed, new_service, origin_of};
@@ -165,12 +165,21 @@ impl ServiceSetup {
         ensures bad_passes { IsErrOf result StartFault.BadPasses
             ↔ ((threads ≡ 0) ⊎ (MAX_THREADS < threads)) }
     {
-        report(&mut log, &self.faults);
+        let ServiceSetup {
+            is_off: _,
+            provider,
+            scope,
+            target,
+            timeout_ms,
+            config,
+            faults,
+        } = self;
+        report(&mut log, &faults);
         let alloc = rt.alloc();
         let seed = draw_seed(&rt)?;
-        let exporter = HttpExporter::new(alloc, rt, self.target, self.timeout_ms);
+        let exporter = HttpExporter::new(alloc, rt, target, timeout_ms);
         let exporter = exporter.reading_after_a_stop();
-        let tracer = self.provider.tracer(self.scope);
+        let tracer = provider.tracer(scope);
         let traced = Traced {
             rt,
             alloc,
@@ -179,7 +188,7 @@ impl ServiceSetup {
             work,
         };
         let log = NameLines::new(log);
-        let done = serve(rt, alloc, exporter, log, self.config, threads, &traced)?;
+        let done = serve(rt, alloc, exporter, log, config, threads, &traced)?;
         Ok(TracedDone::new(done))
     }
 }

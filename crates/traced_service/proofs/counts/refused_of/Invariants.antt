@@ -1,4 +1,4 @@
-use Rattle.std.proofs.Common.{◌≡◌, ◌×◌, fold, drop}
+use Rattle.std.proofs.Common.{◌≡◌, fold, drop}
 use Rattle.traced_service.specs.Sums.{left_out_after, not_started_after}
 use Rattle.traced_service.proofs.counts.refused_of.Given as goal
 
