@@ -1,8 +1,9 @@
 //! What a traced service is started with.
-ghost use Rattle.std.specs.Prelude.{◌≡◌, ◌↔◌, ◌<◌, ◌≤◌, ◌⊎◌, IfOk, IsErrOf, None, if◌then◌else◌, vec_len};
+ghost use Rattle.std.specs.Prelude.{◌≡◌, ◌↔◌, ◌<◌, ◌≤◌, ◌⊎◌, IfErr, IfOk, IsErrOf, None, vec_len};
 ghost use Rattle.batch_desk.specs.Views.{config_view};
 ghost use Rattle.batch_processor.specs.declared.config.BatchConfig.{BatchConfig as Config};
 ghost use Rattle.batch_service.specs.Service.{EndsServed, new_service, origin_of};
+ghost use Rattle.batch_service.specs.declared.fault.StartFault.TheVariants as faults;
 ghost use Rattle.batch_service.specs.declared.service.TheConstants.{MAX_THREADS};
 ghost use Rattle.otlp_span.specs.Parts.{limits_view};
 ghost use Rattle.otlp_span.specs.Resources.{overlaid, service_resource};
@@ -13,7 +14,7 @@ ghost use Rattle.traced_service.specs.Setups.{sampler_of};
 use crate::counts::TracedDone;
 use crate::work::{Traced, TracedWork};
 use batch_processor::BatchConfig;
-use batch_service::{StartFault, serve};
+use batch_service::{MAX_THREADS, StartFault, serve};
 use drop_ledger::NameLines;
 use http_exporter::HttpExporter;
 use otel_settings::{NamedSampler, SamplerName, SettingFault, Settings, settings_of_environment};
@@ -136,7 +137,7 @@ impl ServiceSetup {
         &self.faults
     }
 
-    /// Serves with this number of threads, 1 to [`MAX_THREADS`](batch_service::MAX_THREADS): does
+    /// Serves with this number of threads, 1 to [`MAX_THREADS`]: does
     /// the work of each, exports its spans over HTTP, and stops once all work is done, as
     /// [`batch_service::serve`]. A line for each goes to the log: first for what the settings have
     /// that can't be used, and then for each span that isn't delivered.
@@ -174,6 +175,9 @@ impl ServiceSetup {
             config,
             faults,
         } = self;
+        if threads == 0 || threads > MAX_THREADS {
+            return Err(StartFault::BadPasses);
+        }
         report(&mut log, &faults);
         let alloc = rt.alloc();
         let seed = draw_seed(&rt)?;
@@ -205,7 +209,9 @@ fn report<L: Write>(log: &mut L, faults: &[SettingFault]) {
 /// # Errors
 ///
 /// `NoRandomBytes` where the system gave none.
-fn draw_seed<R: RandomSource>(rt: &R) -> Result<u64, StartFault> {
+fn draw_seed<R: RandomSource>(rt: &R) -> Result<u64, StartFault>
+    ensures { IfErr result (λ fault. fault ≡ faults.NoRandomBytes) }
+{
     match make_rng::<StdRng, R>(rt) {
         Ok(mut rng) => Ok(rng.next_u64()),
         Err(_) => Err(StartFault::NoRandomBytes),
