@@ -27,7 +27,7 @@ use rand_core::Rng;
 use retry_core::RetryConfig;
 use std::alloc::Global;
 use std::io::Write;
-use std::net::Net;
+use std::net::{Net, TcpListener, TcpStream};
 use std::random::RandomSource;
 use std::rt::Env;
 use std::sync::{Arc, Wait};
@@ -153,7 +153,8 @@ impl ServiceSetup {
         work: &W,
     ) -> Result<TracedDone<W::Output, R, L>, StartFault>
     where
-        R: Threads + Wait + RandomSource + Clock + Net + AllocGlobal,
+        R: Threads + Wait + RandomSource + Clock + AllocGlobal,
+        R: Net<Listener = TcpListener, Stream = TcpStream>,
         R: Copy + Send + Sync + 'static,
         L: Write + Send + Drop + 'static,
         W: TracedWork + Sync,
@@ -233,7 +234,8 @@ pub fn serve_from_environment<R, L, W>(
     work: &W,
 ) -> Result<TracedDone<W::Output, R, L>, StartFault>
 where
-    R: Threads + Wait + RandomSource + Clock + Net + Env + AllocGlobal,
+    R: Threads + Wait + RandomSource + Clock + Env + AllocGlobal,
+    R: Net<Listener = TcpListener, Stream = TcpStream>,
     R: Copy + Send + Sync + 'static,
     L: Write + Send + Drop + 'static,
     W: TracedWork + Sync,
