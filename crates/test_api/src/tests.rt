@@ -4,6 +4,7 @@ mod calls;
 mod copies;
 mod environment;
 mod equal;
+mod headers;
 mod ids;
 mod large;
 mod ratios;
