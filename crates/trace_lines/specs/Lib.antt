@@ -1,0 +1,9 @@
+pub mod Comes
+pub mod Keys
+pub mod Lines
+pub mod Parts
+pub mod Plans
+pub mod Repeats
+pub mod Services
+pub mod Spans
+pub mod Texts
