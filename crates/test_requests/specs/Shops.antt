@@ -4,10 +4,16 @@ use Rattle.http_wire.specs.declared.fault.HttpFault.{HttpFault}
 use Rattle.model_span.specs.Spans.{Context}
 use Rattle.otlp_http.specs.Address.{Address}
 use Rattle.otlp_http.specs.Replies.{HttpReply}
+use Rattle.traced_client.specs.Requests.{Request}
 
 -- a shop, and a path with a query
 abbrev pub shop : Address
-shop = record { host = codes "shop.example"; port = 8080; path = codes "/items?page=2" }
+shop = record {
+  host = codes "shop.example";
+  port = 8080;
+  path = codes "/items?page=2";
+  fields = [];
+}
 
 -- a span's context: a sampled one, with a trace state
 abbrev pub context : Context
@@ -23,3 +29,15 @@ context = record {
 -- a reply of this status, with this body
 abbrev pub replied : ℕ → Result (List ℕ) HttpFault → HttpReply
 replied status body = record { status = status; retry_after = None; body = body }
+
+-- a request with two fields and a body
+abbrev pub order : Request
+order = record {
+  method = codes "POST";
+  fields = (codes "Content-Type", codes "text/plain") ∷ (codes "X-Shop", codes "7") ∷ [];
+  body = codes "two teas";
+}
+
+-- a request of this method without fields and without a body
+abbrev pub bare : List ℕ → Request
+bare method = record { method = method; fields = []; body = [] }

@@ -5,31 +5,62 @@
 //! is called.
 
 ghost use Rattle.std.specs.Prelude.{◌≡◌, ◌++◌, ◌∷◌, [], None, Some, Ok, Err, codes, pos};
+ghost use Rattle.std.specs.Prelude.{false, true};
 ghost use Rattle.trace_api.specs.Endings.{ending_calls};
 ghost use Rattle.http_wire.specs.declared.fault.HttpFault.TheVariants as http_faults;
 ghost use Rattle.model_span.specs.Attributes.{int, text};
 ghost use Rattle.model_span.specs.Spans.{error, set_attribute, set_status};
-ghost use Rattle.traced_client.specs.declared.fault.GetFault.TheVariants as faults;
-ghost use Rattle.traced_client.specs.Requests.{get_text};
+ghost use Rattle.traced_client.specs.declared.fault.SendFault.TheVariants as faults;
+ghost use Rattle.traced_client.specs.Exchanges.{answer_of};
+ghost use Rattle.traced_client.specs.Refusals.{is_own, refusal};
+ghost use Rattle.traced_client.specs.Requests.{get_request, request_text};
 ghost use Rattle.traced_client.specs.Spans.{carried_by, ending_of, request_calls};
-ghost use Rattle.test_requests.specs.Shops.{context, replied, shop};
+ghost use Rattle.test_requests.specs.Shops.{bare, context, order, replied, shop};
 
 /// The texts of requests (RFC 9112, sections 2.1, 3 and 5), with the context of a span and without
 /// (W3C Trace Context, "Traceparent Header", "Tracestate Header").
 pub fn texts()
-    ensures traced { get_text shop (carried_by (Some context)) ≡
+    ensures traced { request_text shop (carried_by (Some context)) get_request ≡
         codes "GET /items?page=2 HTTP/1.1\r\nHost: shop.example:8080\r\n" ++
         codes "traceparent: 00-4bf92f3577b34da6a3ce929d0e0e4736-00f067aa0ba902b7-01\r\n" ++
         codes "tracestate: shop=7\r\n" ++
         codes "Connection: close\r\n\r\n" }
-    ensures untraced { get_text shop (carried_by None) ≡
+    ensures untraced { request_text shop (carried_by None) get_request ≡
         codes "GET /items?page=2 HTTP/1.1\r\nHost: shop.example:8080\r\n" ++
         codes "Connection: close\r\n\r\n" }
+    ensures body { request_text shop (carried_by None) order ≡
+        codes "POST /items?page=2 HTTP/1.1\r\nHost: shop.example:8080\r\n" ++
+        codes "Content-Type: text/plain\r\nX-Shop: 7\r\nContent-Length: 8\r\n" ++
+        codes "Connection: close\r\n\r\ntwo teas" }
+    ensures empty { request_text shop (carried_by None) (bare (codes "PUT")) ≡
+        codes "PUT /items?page=2 HTTP/1.1\r\nHost: shop.example:8080\r\n" ++
+        codes "Content-Length: 0\r\nConnection: close\r\n\r\n" }
+{}
+
+/// Which requests are refused (RFC 9110, sections 5.1, 5.6.2, 9.1 and 9.3.8).
+pub fn refusals()
+    ensures none { refusal order ≡ None }
+    ensures empty { refusal (bare []) ≡ Some faults.BadMethod }
+    ensures connect { refusal (bare (codes "CONNECT")) ≡ Some faults.BadMethod }
+    ensures own { is_own (codes "TraceParent") ≡ true }
+    ensures other { is_own (codes "Content-Type") ≡ false }
+    ensures line_end { refusal (record order {
+      fields = (codes "X-Shop", codes "7\r\nHost: b") ∷ [];
+    }) ≡ Some faults.BadField }
+    ensures trace { refusal (record order { method = codes "TRACE" }) ≡ Some faults.BadBody }
+{}
+
+/// What comes of a reply: one to a HEAD has no body (RFC 9112, section 6.3).
+pub fn answers()
+    ensures head { answer_of (codes "HEAD") (Ok (replied 200 (Err http_faults.TooLarge)))
+        ≡ Ok (replied 200 (Ok [])) }
+    ensures get { answer_of (codes "GET") (Ok (replied 200 (Ok (codes "hi"))))
+        ≡ Ok (replied 200 (Ok (codes "hi"))) }
 {}
 
 /// The attributes that a span starts with (Semantic Conventions, "HTTP spans", "HTTP client").
 pub fn attributes()
-    ensures { request_calls shop ≡
+    ensures known { request_calls (codes "GET") shop ≡
         set_attribute (record {
           key = codes "http.request.method";
           value = text (codes "GET");
@@ -46,6 +77,29 @@ pub fn attributes()
         ∷ set_attribute (record {
           key = codes "network.protocol.version";
           value = text (codes "1.1");
+        })
+        ∷ [] }
+    ensures unknown { request_calls (codes "BREW") shop ≡
+        set_attribute (record {
+          key = codes "http.request.method";
+          value = text (codes "_OTHER");
+        })
+        ∷ set_attribute (record {
+          key = codes "server.address";
+          value = text (codes "shop.example");
+        })
+        ∷ set_attribute (record { key = codes "server.port"; value = int (pos 8080) })
+        ∷ set_attribute (record {
+          key = codes "url.full";
+          value = text (codes "http://shop.example:8080/items?page=2");
+        })
+        ∷ set_attribute (record {
+          key = codes "network.protocol.version";
+          value = text (codes "1.1");
+        })
+        ∷ set_attribute (record {
+          key = codes "http.request.method_original";
+          value = text (codes "BREW");
         })
         ∷ [] }
 {}

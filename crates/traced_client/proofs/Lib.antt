@@ -1,3 +1,4 @@
+mod Fields
 mod Started
 mod Sent
-mod Got
+mod Traced

@@ -1,15 +1,16 @@
--- A text that went out in one piece.
+-- A text that went out in two pieces.
 use Rattle.std.proofs.Common.{◌≡◌, ℕ, List, [], ◌++◌, subst, append-nil}
 use Rattle.std.specs.Io.KnownBytes.{Appends}
 use Rattle.http_exporter.specs.Attempts.{IsSent, Shown}
 
--- A text is sent once all of it is written and no further write has failed.
-pub sent-whole : {Link : Type 0} (shown : Shown Link) (text : List ℕ) (old new : Link)
-    → Appends (shown.contents old) (shown.contents new) (text ++ [])
+-- A head and a body are sent once both are written and no further write has failed.
+pub sent-whole : {Link : Type 0} (shown : Shown Link) (head body : List ℕ) (old new : Link)
+    → Appends (shown.contents old) (shown.contents new) (head ++ (body ++ []))
     → shown.failed_writes new ≡ shown.failed_writes old
-    → IsSent shown text old new
-sent-whole shown text old new written counted = record {
+    → IsSent shown (head ++ body) old new
+sent-whole shown head body old new written counted = record {
   written =
-      subst (λ t. Appends (shown.contents old) (shown.contents new) t) (append-nil text) written;
+      subst (λ t. Appends (shown.contents old) (shown.contents new) (head ++ t)) (append-nil body)
+      written;
   counted = counted;
 }

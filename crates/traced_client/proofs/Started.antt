@@ -13,15 +13,15 @@ use Rattle.traced_client.specs.Spans.{StartsClient, client_start}
 
 -- A client span that starts with attributes has these, and spends the words of its identifiers.
 pub starts-client : (tracer : Tracer) (old new : Stream) (parent : Option Context)
-    (pairs : List Attribute) (at : ℕ) (result : Result HeldSpan StartFault)
-    → StartsWith (started_span tracer (client_start parent at) (words_of old))
+    (method : List ℕ) (pairs : List Attribute) (at : ℕ) (result : Result HeldSpan StartFault)
+    → StartsWith (started_span tracer (client_start method parent at) (words_of old))
     (map set_attribute pairs ++ []) result
     → Spends (ids_words (valid_parent parent)) old new
-    → IfOk result (StartsClient tracer old new parent pairs at)
-starts-client tracer old new parent pairs at (Ok span) h spent = record {
+    → IfOk result (StartsClient tracer old new parent method pairs at)
+starts-client tracer old new parent method pairs at (Ok span) h spent = record {
   s = h.0;
   started = h.1;
   held = h.2 ∙ ap (held_span h.0) (append-nil (map set_attribute pairs));
   spent = spent;
 }
-starts-client tracer old new parent pairs at (Err fault) h spent = tt
+starts-client tracer old new parent method pairs at (Err fault) h spent = tt

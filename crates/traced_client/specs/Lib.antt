@@ -1,5 +1,6 @@
 pub mod Exchanges
 pub mod Faults
-pub mod Gets
+pub mod Refusals
 pub mod Requests
+pub mod Sends
 pub mod Spans

@@ -6,8 +6,10 @@
 mod client;
 mod exchange;
 mod fault;
+mod refusal;
 mod request;
 mod start;
 
 pub use client::{Client, ClientParts};
-pub use fault::GetFault;
+pub use fault::SendFault;
+pub use request::ClientRequest;

@@ -1,6 +1,7 @@
 //! How a request begins: its span, and the fields that carry the span's context.
 
-ghost use Rattle.std.specs.Prelude.{◌≡◌, IfOk, IfSome, option_map, string_bytes};
+ghost use Rattle.std.specs.Prelude.{◌≡◌, ◌++◌, IfOk, IfSome, OnOk, option_map, string_bytes};
+ghost use Rattle.std.specs.Option.{option_copied};
 ghost use Rattle.otlp_ids.specs.SpanContext.{context_view, parent_view};
 ghost use Rattle.trace_api.specs.Lent.{lent_pairs};
 ghost use Rattle.trace_api.specs.Starts.{tracer_view};
@@ -10,6 +11,7 @@ ghost use Rattle.traced_client.specs.Spans as spec;
 ghost use Rattle.traced_client.specs.Spans.{HasStarted, StartsClient, carried_by};
 
 use crate::request::Field;
+use http_method::{method_name, method_value, original_method};
 use itoa::Buffer;
 use otlp_http::Target;
 use otlp_ids::{OutOfMemory, SpanContext};
@@ -45,13 +47,38 @@ fn full_url(alloc: Global, target: &Target) -> Result<String, OutOfMemory>
     Ok(url)
 }
 
-/// The attributes that a span starts with (Semantic Conventions, "HTTP spans", "HTTP client").
-fn request_pairs<'a>(target: &'a Target, url: &'a str) -> [KeyValue<'a>; 5]
-    requires { url.now ≡ spec.full_url target.now }
-    ensures { lent_pairs result ≡ spec.request_pairs target.now }
+/// Adds the method as it is, where the conventions don't know it.
+fn push_original<'a>(
+    pairs: &mut Vec<KeyValue<'a>>,
+    original: Option<&'a str>,
+) -> Result<(), OutOfMemory>
+    ensures { OnOk result (lent_pairs pairs.new.items
+        ≡ lent_pairs pairs.old.items ++ spec.original_pairs (option_copied original.entry)) }
 {
-    [
-        text_pair("http.request.method", "GET"),
+    let Some(original) = original else {
+        return Ok(());
+    };
+    pairs.push(text_pair("http.request.method_original", original))?;
+    Ok(())
+}
+
+/// The attributes that a span starts with (Semantic Conventions, "HTTP spans", "HTTP client").
+///
+/// # Errors
+///
+/// `OutOfMemory` where memory was refused.
+fn request_pairs<'a>(
+    alloc: Global,
+    method: &'a str,
+    target: &'a Target,
+    url: &'a str,
+) -> Result<Vec<KeyValue<'a>>, OutOfMemory>
+    requires { url.now ≡ spec.full_url target.now }
+    ensures { IfOk result (λ pairs. lent_pairs pairs.items
+        ≡ spec.request_pairs method.now target.now) }
+{
+    let mut pairs = vec![in alloc;
+        text_pair("http.request.method", method_value(method)),
         text_pair("server.address", target.host()),
         KeyValue {
             key: "server.port",
@@ -59,24 +86,27 @@ fn request_pairs<'a>(target: &'a Target, url: &'a str) -> [KeyValue<'a>; 5]
         },
         text_pair("url.full", url),
         text_pair("network.protocol.version", "1.1"),
-    ]
+    ]?;
+    push_original(&mut pairs, original_method(method))?;
+    Ok(pairs)
 }
 
-/// Starts a span of the kind client, with these attributes.
+/// Starts a span of the kind client for a request of this method, with these attributes.
 fn start_with<S: Sampler, R: Rng>(
     alloc: Global,
     tracer: &Tracer<'_, S>,
     rng: &mut R,
     parent: Option<&SpanContext>,
+    method: &str,
     attributes: &[KeyValue<'_>],
     at: u64,
 ) -> Result<Span, StartFault>
     ensures { IfOk result (StartsClient (tracer_view S.meaning tracer.now)
-        (R.stream rng.old) (R.stream rng.new) (parent_view parent.entry)
+        (R.stream rng.old) (R.stream rng.new) (parent_view parent.entry) method.now
         (lent_pairs attributes.now) at) }
 {
     let asked = SpanRequest {
-        name: "GET",
+        name: method_name(method),
         kind: Kind::Client,
         parent,
         attributes,
@@ -85,7 +115,7 @@ fn start_with<S: Sampler, R: Rng>(
     start_span(tracer, alloc, rng, &asked, at)
 }
 
-/// Starts the span of a GET of the target, at a moment in nanoseconds since 1970.
+/// Starts the span of a request of this method to the target, at a moment in nanoseconds since 1970.
 ///
 /// # Errors
 ///
@@ -95,15 +125,17 @@ fn start<S: Sampler, R: Rng>(
     tracer: &Tracer<'_, S>,
     rng: &mut R,
     parent: Option<&SpanContext>,
+    method: &str,
     target: &Target,
     at: u64,
 ) -> Result<Span, StartFault>
     ensures { IfOk result (HasStarted (tracer_view S.meaning tracer.now)
-        (R.stream rng.old) (R.stream rng.new) (parent_view parent.entry) target.now at) }
+        (R.stream rng.old) (R.stream rng.new) (parent_view parent.entry) method.now target.now
+        at) }
 {
     let url = full_url(alloc, target)?;
-    let attributes = request_pairs(target, &url);
-    start_with(alloc, tracer, rng, parent, &attributes, at)
+    let attributes = request_pairs(alloc, method, target, &url)?;
+    start_with(alloc, tracer, rng, parent, method, &attributes, at)
 }
 
 /// The fields that carry a context.
@@ -126,34 +158,39 @@ fn start_carried<S: Sampler, R: Rng>(
     tracer: &Tracer<'_, S>,
     rng: &mut R,
     parent: Option<&SpanContext>,
+    method: &str,
     target: &Target,
     at: u64,
 ) -> Result<(Span, Vec<Field>), StartFault>
     ensures started { IfOk result (λ made. HasStarted (tracer_view S.meaning tracer.now)
-        (R.stream rng.old) (R.stream rng.new) (parent_view parent.entry) target.now at made.0) }
+        (R.stream rng.old) (R.stream rng.new) (parent_view parent.entry) method.now target.now
+        at made.0) }
     ensures carried { IfOk result (λ made. fields_view made.1.items ≡ outgoing made.0.context) }
 {
-    let span = start(alloc, tracer, rng, parent, target, at)?;
+    let span = start(alloc, tracer, rng, parent, method, target, at)?;
     let fields = fields_of(alloc, span.context())?;
     Ok((span, fields))
 }
 
-/// Begins a GET of the target, at a moment in nanoseconds since 1970. It has a span, a child of the
-/// parent, if there is memory for that and for the fields, and the generator gives identifiers.
+/// Begins a request of this method to the target, at a moment in nanoseconds since 1970. It has a
+/// span, a child of the parent, if there is memory for that and for the fields, and the generator
+/// gives identifiers.
 pub(crate) fn begin<S: Sampler, R: Rng>(
     alloc: Global,
     tracer: &Tracer<'_, S>,
     rng: &mut R,
     parent: Option<&SpanContext>,
+    method: &str,
     target: &Target,
     at: u64,
 ) -> Begun
     ensures started { IfSome result.span (HasStarted (tracer_view S.meaning tracer.now)
-        (R.stream rng.old) (R.stream rng.new) (parent_view parent.entry) target.now at) }
+        (R.stream rng.old) (R.stream rng.new) (parent_view parent.entry) method.now target.now
+        at) }
     ensures carried { fields_view result.fields.items
         ≡ carried_by (option_map (λ held. held.context) result.span) }
 {
-    match start_carried(alloc, tracer, rng, parent, target, at) {
+    match start_carried(alloc, tracer, rng, parent, method, target, at) {
         Ok((span, fields)) => Begun {
             span: Some(span),
             fields,

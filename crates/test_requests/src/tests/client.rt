@@ -14,7 +14,7 @@ use std::str;
 use std::sync::Arc;
 use std::test::Fail;
 use trace_api::{BodyPass, Provider, WordsRng};
-use traced_client::{Client, ClientParts, GetFault};
+use traced_client::{Client, ClientParts, ClientRequest, SendFault};
 
 /// Words of traces and of spans.
 const WORDS: [u64; 6] = [1, 2, 3, 4, 5, 6];
@@ -33,7 +33,7 @@ struct Came {
 }
 
 /// Adds the line of a reply.
-fn push_reply(lines: &mut String, reply: &Result<Reply, GetFault>) -> Result<(), Fail> {
+fn push_reply(lines: &mut String, reply: &Result<Reply, SendFault>) -> Result<(), Fail> {
     match reply {
         Ok(reply) => match &reply.body {
             Ok(body) => writeln!(lines, "{} {}", reply.status, str::from_utf8(body)?)?,
@@ -44,13 +44,17 @@ fn push_reply(lines: &mut String, reply: &Result<Reply, GetFault>) -> Result<(),
     Ok(())
 }
 
-/// Asks a far side that does this: once for each parent, with identifiers by these words.
-fn ask(
-    rt: &HostRuntime,
-    words: &[u64],
-    does: Does,
-    parents: &[Option<SpanContext>],
-) -> Result<Came, Fail> {
+/// What a client is asked to send.
+#[derive(Drop)]
+enum Asked {
+    /// A GET within a child of this span, or within a root.
+    Get(Option<SpanContext>),
+    /// This request within a root.
+    Send(ClientRequest<'static>),
+}
+
+/// Asks a far side that does this, with identifiers by these words.
+fn ask(rt: &HostRuntime, words: &[u64], does: Does, asked: &[Asked]) -> Result<Came, Fail> {
     let alloc = rt.alloc();
     let resource = Arc::new(alloc, Resource::new(alloc, Vec::new(alloc)))?;
     let provider = Provider::new(AlwaysOn, resource, SpanLimits::default());
@@ -65,8 +69,11 @@ fn ask(
     let target = Target::new(alloc, "shop.example", 8080, "/items?page=2")?;
     let mut pass = BodyPass::new(alloc, 8)?;
     let mut replies = String::new(alloc);
-    for parent in parents {
-        let reply = client.get(parent.as_ref(), &target, &mut pass);
+    for one in asked {
+        let reply = match one {
+            Asked::Get(parent) => client.get(parent.as_ref(), &target, &mut pass),
+            Asked::Send(request) => client.send(None, &target, request, &mut pass),
+        };
         push_reply(&mut replies, &reply)?;
     }
     let untraced = client.untraced();
@@ -98,8 +105,8 @@ fn each_request_has_a_span_of_its_own_whose_context_it_carries(
     rt: HostRuntime,
 ) -> Result<(), Fail> {
     let alloc = rt.alloc();
-    let parents = vec![in alloc; Some(caller(alloc)?), None]?;
-    let came = ask(&rt, &WORDS, Does::Replies(GOOD), &parents)?;
+    let asked = vec![in alloc; Asked::Get(Some(caller(alloc)?)), Asked::Get(None)]?;
+    let came = ask(&rt, &WORDS, Does::Replies(GOOD), &asked)?;
     assert_equal(&rt, came.replies.as_str(), "200 hi\n200 hi\n");
     let sent = b"GET /items?page=2 HTTP/1.1\r\nHost: shop.example:8080\r\n\
         traceparent: 00-000000000000000000000000000000aa-0000000000000001-01\r\n\
@@ -170,7 +177,7 @@ const ERRORS: &[(Does, &str, &str)] = &[
 fn an_error_is_on_the_span(rt: HostRuntime) -> Result<(), Fail> {
     let alloc = rt.alloc();
     for (does, reply, ends) in ERRORS {
-        let came = ask(&rt, &WORDS, *does, &[None])?;
+        let came = ask(&rt, &WORDS, *does, &[Asked::Get(None)])?;
         assert_equal(&rt, came.replies.as_str(), *reply);
         let span = format!(in alloc; "{BEGINS}{ends}")?;
         assert_equal(&rt, came.spans.as_str(), span.as_str());
@@ -182,7 +189,7 @@ fn an_error_is_on_the_span(rt: HostRuntime) -> Result<(), Fail> {
 #[test]
 fn a_reply_below_400_is_no_error(rt: HostRuntime) -> Result<(), Fail> {
     let reply = b"HTTP/1.1 399 Odd\r\nContent-Length: 0\r\n\r\n";
-    let came = ask(&rt, &WORDS, Does::Replies(reply), &[None])?;
+    let came = ask(&rt, &WORDS, Does::Replies(reply), &[Asked::Get(None)])?;
     assert_equal(&rt, came.replies.as_str(), "399 \n");
     let spans = "GET Client 0000000000000003 http.request.method=Text(\"GET\") \
         server.address=Text(\"shop.example\") server.port=Int(8080) \
@@ -194,12 +201,150 @@ fn a_reply_below_400_is_no_error(rt: HostRuntime) -> Result<(), Fail> {
 
 #[test]
 fn a_request_without_a_span_is_sent_and_counted(rt: HostRuntime) -> Result<(), Fail> {
-    let came = ask(&rt, &[], Does::Replies(GOOD), &[None])?;
+    let came = ask(&rt, &[], Does::Replies(GOOD), &[Asked::Get(None)])?;
     assert_equal(&rt, came.replies.as_str(), "200 hi\n");
     let sent = b"GET /items?page=2 HTTP/1.1\r\nHost: shop.example:8080\r\n\
         Connection: close\r\n\r\n";
     assert_equal(&rt, came.sent.as_slice(), sent.as_slice());
     assert_equal(&rt, came.spans.as_str(), "");
     assert_equal(&rt, came.untraced, 1);
+    Ok(())
+}
+
+/// A request with two fields and a body.
+const ORDER: ClientRequest<'static> = ClientRequest {
+    method: "POST",
+    fields: &[("Content-Type", b"text/plain"), ("X-Shop", b"caf\xe9\t7")],
+    body: b"two teas",
+};
+
+#[test]
+fn fields_and_a_body_go_out_as_they_are(rt: HostRuntime) -> Result<(), Fail> {
+    let came = ask(&rt, &WORDS, Does::Replies(GOOD), &[Asked::Send(ORDER)])?;
+    assert_equal(&rt, came.replies.as_str(), "200 hi\n");
+    let sent = b"POST /items?page=2 HTTP/1.1\r\nHost: shop.example:8080\r\n\
+        traceparent: 00-00000000000000010000000000000002-0000000000000003-01\r\n\
+        Content-Type: text/plain\r\nX-Shop: caf\xe9\t7\r\nContent-Length: 8\r\n\
+        Connection: close\r\n\r\ntwo teas";
+    assert_equal(&rt, came.sent.as_slice(), sent.as_slice());
+    let spans = "POST Client 0000000000000003 http.request.method=Text(\"POST\") \
+        server.address=Text(\"shop.example\") server.port=Int(8080) \
+        url.full=Text(\"http://shop.example:8080/items?page=2\") \
+        network.protocol.version=Text(\"1.1\") http.response.status_code=Int(200)\n";
+    assert_equal(&rt, came.spans.as_str(), spans);
+    Ok(())
+}
+
+/// A method, how the head of its request ends, and how its span begins.
+const METHODS: [(&str, &str, &str); 8] = [
+    ("GET", "Connection: close\r\n\r\n", "GET Client"),
+    ("HEAD", "Connection: close\r\n\r\n", "HEAD Client"),
+    ("DELETE", "Connection: close\r\n\r\n", "DELETE Client"),
+    ("OPTIONS", "Connection: close\r\n\r\n", "OPTIONS Client"),
+    ("TRACE", "Connection: close\r\n\r\n", "TRACE Client"),
+    (
+        "PATCH",
+        "Content-Length: 0\r\nConnection: close\r\n\r\n",
+        "PATCH Client",
+    ),
+    (
+        "PUT",
+        "Content-Length: 0\r\nConnection: close\r\n\r\n",
+        "PUT Client",
+    ),
+    ("BREW", "Connection: close\r\n\r\n", "HTTP Client"),
+];
+
+/// A reply whose body isn't there, since it is one to a `HEAD`.
+const HEAD_ALONE: &[u8] = b"HTTP/1.1 200 OK\r\nContent-Length: 2\r\n\r\n";
+
+/// Whether a request of this method goes out so, and has such a span.
+fn goes_out(rt: &HostRuntime, method: &'static str, end: &str, name: &str) -> Result<bool, Fail> {
+    let alloc = rt.alloc();
+    let reply = if method == "HEAD" { HEAD_ALONE } else { GOOD };
+    let came = ask(
+        rt,
+        &WORDS,
+        Does::Replies(reply),
+        &[Asked::Send(request(method, &[], b""))],
+    )?;
+    let body = if method == "HEAD" { "" } else { "hi" };
+    let head = format!(in alloc;
+        "{method} /items?page=2 HTTP/1.1\r\n\
+        Host: shop.example:8080\r\n\
+        traceparent: 00-00000000000000010000000000000002-0000000000000003-01\r\n{end}"
+    )?;
+    let answer = format!(in alloc; "200 {body}\n")?;
+    Ok(
+        came.sent.as_slice() == head.as_bytes()
+            && came.replies.as_str() == answer.as_str()
+            && came.spans.as_str().starts_with(name),
+    )
+}
+
+#[test]
+fn each_method_is_sent_and_is_on_its_span(rt: HostRuntime) -> Result<(), Fail> {
+    for (method, end, name) in METHODS {
+        assert_equal(
+            &rt,
+            (method, goes_out(&rt, method, end, name)?),
+            (method, true),
+        );
+    }
+    let brew = Asked::Send(request("BREW", &[], b""));
+    let came = ask(&rt, &WORDS, Does::Replies(GOOD), &[brew])?;
+    let spans = "HTTP Client 0000000000000003 http.request.method=Text(\"_OTHER\") \
+        server.address=Text(\"shop.example\") server.port=Int(8080) \
+        url.full=Text(\"http://shop.example:8080/items?page=2\") \
+        network.protocol.version=Text(\"1.1\") \
+        http.request.method_original=Text(\"BREW\") http.response.status_code=Int(200)\n";
+    assert_equal(&rt, came.spans.as_str(), spans);
+    Ok(())
+}
+
+/// The method, the fields and the body of a request that is refused, and what the client says.
+const BAD: &[(&str, &[(&str, &[u8])], &[u8], &str)] = &[
+    ("", &[], b"", METHOD),
+    ("GE T", &[], b"", METHOD),
+    ("CONNECT", &[], b"", METHOD),
+    ("GET", &[("", b"1")], b"", FIELD),
+    ("GET", &[("X-A", b"1"), ("X B", b"1")], b"", FIELD),
+    ("GET", &[("X-A", b"1\r\nX-B: 2")], b"", FIELD),
+    ("GET", &[("TraceParent", b"00")], b"", FIELD),
+    ("PUT", &[("content-length", b"1")], b"1", FIELD),
+    ("TRACE", &[], b"1", BODY),
+];
+
+const METHOD: &str = "bad method: a method is a token, and not CONNECT\n";
+
+const FIELD: &str = "bad field: a name that is no token or is the client's own, or a bad value\n";
+
+const BODY: &str = "bad body: a TRACE has none\n";
+
+/// A request of a table.
+fn request(
+    method: &'static str,
+    fields: &'static [(&'static str, &'static [u8])],
+    body: &'static [u8],
+) -> ClientRequest<'static> {
+    ClientRequest {
+        method,
+        fields,
+        body,
+    }
+}
+
+#[test]
+fn a_bad_request_is_refused_and_nothing_is_sent(rt: HostRuntime) -> Result<(), Fail> {
+    for (method, fields, body, reply) in BAD {
+        let bad = Asked::Send(request(method, fields, body));
+        let came = ask(&rt, &WORDS, Does::Replies(GOOD), &[bad])?;
+        assert_equal(&rt, came.replies.as_str(), *reply);
+        assert_equal(
+            &rt,
+            (came.sent.len(), came.spans.len(), came.untraced),
+            (0, 0, 0),
+        );
+    }
     Ok(())
 }

@@ -10,15 +10,24 @@ use Rattle.trace_context.specs.Keys.{is_key_around, is_key_byte, is_name, is_ten
 use Rattle.trace_context.specs.Keys.{is_value_byte}
 use Rattle.trace_context.specs.Outgoing.{traceparent_text}
 use Rattle.trace_context.specs.Tracestate.{entries_in, is_entry, key_of, tracestate}
-use Rattle.traced_client.specs.Requests.{get_text}
+use Rattle.traced_client.specs.Requests.{expects_body, request_head}
 use Rattle.test_requests.proofs.worked_client.texts.Goals as goal
 
 pub returns-clause-traced : goal.returns-clause-traced
-unfolding get_text digits outgoing traceparent_text hex_on_literals tracestate entries_in is_entry
+unfolding request_head expects_body digits outgoing traceparent_text hex_on_literals tracestate
+    entries_in is_entry
     key_of is_key_around is_key_byte is_name is_tenant is_value is_value_byte trim_ows is_utf8 chars
     encode
 returns-clause-traced c = refl
 
 pub returns-clause-untraced : goal.returns-clause-untraced
-unfolding get_text digits
+unfolding request_head expects_body digits
 returns-clause-untraced c = refl
+
+pub returns-clause-body : goal.returns-clause-body
+unfolding request_head expects_body digits
+returns-clause-body c = refl
+
+pub returns-clause-empty : goal.returns-clause-empty
+unfolding request_head expects_body digits
+returns-clause-empty c = refl

@@ -1,7 +1,7 @@
 use Rattle.std.proofs.Common.{◌≡◌, ◌++◌, flat_map, take}
 use Rattle.trace_context.specs.Pairs.{fields_view}
 use Rattle.traced_client.specs.Requests.{field_line}
-use Rattle.traced_client.proofs.request.push_fields.Given as goal
+use Rattle.traced_client.proofs.request.push_carried.Given as goal
 
 -- the lines of the fields below the index are added
 abbrev pub invariant-loop-name : goal.invariant-loop-name
