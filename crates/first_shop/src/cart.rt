@@ -15,9 +15,9 @@ use std::sync::Arc;
 use std::time::Clock;
 use trace_kit::http::{Target, TcpDial};
 use trace_kit::processor::{ServicePass, Work};
-use trace_kit::trace::{EndPass, SpanContext, SpanData};
+use trace_kit::trace::{EndPass, SpanData};
 use traced_client::{Client, ClientParts};
-use traced_server::{Handler, ServerName, TracedService, Tracing};
+use traced_server::{Handler, Origin, RequestSpan, ServerName, TracedService, Tracing};
 
 /// How long a request may wait, in milliseconds.
 const TIMEOUT_MS: u64 = 5_000;
@@ -33,10 +33,10 @@ struct Cart<'a, R> {
 
 impl<'a, R: Net + Clock + Copy> Cart<'a, R> {
     /// Asks the other service for an item, and answers what it says.
-    fn show<P: EndPass<SpanData>>(
+    fn show<P: EndPass<SpanData>, O: Origin>(
         &mut self,
         item: u64,
-        parent: Option<&SpanContext>,
+        span: &mut RequestSpan<O>,
         pass: &mut P,
         response: &mut Response,
     ) -> Result<(), AllocError> {
@@ -44,8 +44,9 @@ impl<'a, R: Net + Clock + Copy> Cart<'a, R> {
         let Ok(target) = Target::new(self.site.alloc, "127.0.0.1", self.stock, &path) else {
             return Err(AllocError);
         };
-        let reply = self.client.get(parent, &target, pass);
-        self.site.count_span(is_sampled(parent));
+        span.set("shop.item", item);
+        let reply = self.client.get(span.context(), &target, pass);
+        self.site.count_span(is_sampled(span.context()));
         match reply {
             Ok(reply) if reply.status == 200 => match &reply.body {
                 Ok(body) => response.body.put_slice(body),
@@ -70,17 +71,17 @@ impl<'a, R: Net + Clock + Copy, P: EndPass<SpanData>> Handler<P> for Cart<'a, R>
         }
     }
 
-    fn handle(
+    fn handle<O: Origin>(
         &mut self,
         request: &Request<Bytes>,
-        parent: Option<&SpanContext>,
+        span: &mut RequestSpan<O>,
         pass: &mut P,
         response: &mut Response,
     ) -> Result<(), AllocError> {
-        let number = self.site.count_request(is_sampled(parent));
+        let number = self.site.count_request(is_sampled(span.context()));
         match request.uri().path() {
             "/healthz" => response.body.put_slice(b"ok\n"),
-            "/cart" => self.show(number, parent, pass, response),
+            "/cart" => self.show(number, span, pass, response),
             _ => {
                 response.status = StatusCode::NOT_FOUND;
                 Ok(())

@@ -16,7 +16,7 @@ use trace_kit::trace::{
     EndPass, KeyValue, Kind, Scope, Span, SpanContext, SpanData, SpanExt, SpanRequest, Tracer,
     start_span,
 };
-use traced_server::{Handler, ServerName, TracedService, Tracing};
+use traced_server::{Handler, Origin, RequestSpan, ServerName, TracedService, Tracing};
 
 /// Every so many items, one is on a shelf that is locked.
 const LOCKED: u64 = 4;
@@ -105,14 +105,14 @@ impl<R, P: EndPass<SpanData>> Handler<P> for Stock<'_, '_, R> {
         }
     }
 
-    fn handle(
+    fn handle<O: Origin>(
         &mut self,
         request: &Request<Bytes>,
-        parent: Option<&SpanContext>,
+        span: &mut RequestSpan<O>,
         pass: &mut P,
         response: &mut Response,
     ) -> Result<(), AllocError> {
-        self.site.count_request(is_sampled(parent));
+        self.site.count_request(is_sampled(span.context()));
         let path = request.uri().path();
         if path == "/healthz" {
             return response.body.put_slice(b"ok\n");
@@ -121,7 +121,7 @@ impl<R, P: EndPass<SpanData>> Handler<P> for Stock<'_, '_, R> {
             response.status = StatusCode::NOT_FOUND;
             return Ok(());
         };
-        match self.look_up(item, parent, pass) {
+        match self.look_up(item, span.context(), pass) {
             Some(count) => {
                 let text = format!(in self.site.alloc; "item {item}: {count} left\n")?;
                 response.body.put_slice(text.as_bytes())

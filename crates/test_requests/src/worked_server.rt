@@ -9,7 +9,8 @@ ghost use Rattle.trace_api.specs.Endings.{ending_calls};
 ghost use Rattle.model_span.specs.Attributes.{int, text};
 ghost use Rattle.model_span.specs.Spans.{error, set_attribute, set_status};
 ghost use Rattle.traced_server.specs.Attributes.{ending_of};
-ghost use Rattle.traced_server.specs.Methods.{method_value, original_method, span_name};
+ghost use Rattle.http_method.specs.Methods.{method_value, original_method};
+ghost use Rattle.traced_server.specs.Methods.{span_name};
 
 /// How a span is named, and says its method (Semantic Conventions, "HTTP spans", "Name";
 /// "http.request.method").

@@ -9,7 +9,6 @@ use batch_processor::SystemClock;
 use bytes::{BufMut, Bytes};
 use http::Request;
 use http_server::{Config, Connection, Response, Service, serve};
-use otlp_ids::SpanContext;
 use otlp_span::Scope;
 use rand::make_rng;
 use rand::rngs::StdRng;
@@ -21,7 +20,7 @@ use std::sync::{Arc, Wait};
 use std::time::{Clock, Instant};
 use trace_api::Span;
 use trace_context::{read_traceparent, write_traceparent};
-use traced_server::{Handler, ServerName, TracedService, Tracing};
+use traced_server::{Handler, Origin, RequestSpan, ServerName, TracedService, Tracing};
 
 /// How many rounds there are.
 const ROUNDS: u32 = 51;
@@ -96,10 +95,10 @@ impl<P> Handler<P> for Same {
         Some("/cart")
     }
 
-    fn handle(
+    fn handle<O: Origin>(
         &mut self,
         _: &Request<Bytes>,
-        _: Option<&SpanContext>,
+        _: &mut RequestSpan<O>,
         _: &mut P,
         response: &mut Response,
     ) -> Result<(), AllocError> {

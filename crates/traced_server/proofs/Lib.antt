@@ -1,3 +1,4 @@
+mod GoesOn
 mod Texts
 mod Started
 mod Served

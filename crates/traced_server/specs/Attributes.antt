@@ -15,7 +15,7 @@ use Rattle.http.specs.StatusCode.{code_digits}
 use Rattle.model_span.specs.Attributes.{Attribute}
 use Rattle.trace_api.specs.Endings.{Ending, int_pair, text_pair}
 use Rattle.traced_server.specs.declared.start.ServerName.{ServerName}
-use Rattle.traced_server.specs.Methods.{method_value, original_method}
+use Rattle.http_method.specs.Methods.{method_value, original_method}
 
 -- what a server is reached by
 pub record Server : Type 0 where

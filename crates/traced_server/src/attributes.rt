@@ -6,10 +6,10 @@ ghost use Rattle.http.specs.Request.{head_of};
 ghost use Rattle.trace_api.specs.Lent.{lent_pairs};
 ghost use Rattle.traced_server.specs.Attributes as spec;
 
-use crate::method::{method_value, original_method};
 use crate::start::ServerName;
 use bytes::Bytes;
 use http::{HeaderMap, HeaderValue, Request, Version};
+use http_method::{method_value, original_method};
 use otlp_ids::OutOfMemory;
 use std::alloc::Global;
 use std::str;

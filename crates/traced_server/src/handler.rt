@@ -5,13 +5,12 @@ ghost use Rattle.std.specs.Option.{option_copied};
 ghost use Rattle.http.specs.declared.request.Request.{Request};
 ghost use Rattle.http_server.specs.declared.response.Response.{Response};
 ghost use Rattle.http_server.specs.Response.{IsBlank};
-ghost use Rattle.model_span.specs.Spans.{Context};
-ghost use Rattle.otlp_ids.specs.SpanContext.{parent_view};
+ghost use Rattle.traced_server.specs.RequestSpans.{LentSpan};
 
+use crate::request_span::{Origin, RequestSpan};
 use bytes::Bytes;
 use http::Request;
 use http_server::Response;
-use otlp_ids::SpanContext;
 use std::alloc::AllocError;
 
 /// Answers requests, each within a span. The handler's own spans end on a `P`, which is a pass of
@@ -20,11 +19,11 @@ pub trait Handler<P> {
     /// What the route of a request may be, if it has one. An `impl` says so, if it can say that.
     ghost routes: { Self → Request (List ℕ) → Option (List ℕ) → Type 0 } = { λ _ _ _. ⊤ };
 
-    /// From the first state and the first pass, with the context of the request's span, this
-    /// response answers the request, or there is none for lack of memory, and the second state and
-    /// the second pass are left. An `impl` says so, if it can say that.
-    ghost answers: { Self → P → Request (List ℕ) → Option Context → Option Response → Self → P
-        → Type 0 } = { λ _ _ _ _ _ _ _. ⊤ };
+    /// From the first state, the first pass and the first span, which is lent, this response answers
+    /// the request, or there is none for lack of memory, and the second state, pass and span are
+    /// left. An `impl` says so, if it can say that.
+    ghost answers: { Self → P → LentSpan → Request (List ℕ) → Option Response → Self → P → LentSpan
+        → Type 0 } = { λ _ _ _ _ _ _ _ _. ⊤ };
 
     /// The route that the request is answered by, if there is one: a path with names in place of
     /// what varies in it, as `/stock/{id}` (Semantic Conventions, "http.route"). The span is named
@@ -32,24 +31,24 @@ pub trait Handler<P> {
     fn route(&self, request: &Request<Bytes>) -> Option<&str>
         ensures { routes self.now request.now (option_copied result) };
 
-    /// Fills `response`, which comes as a 200 with no header and no body. `parent` is the context
-    /// of the request's span, for spans of the handler's own, which end on `pass`. There is none
-    /// where the request has no span for lack of memory.
+    /// Fills `response`, which comes as a 200 with no header and no body. `span` is the request's
+    /// span, on which the handler may say more; it ends once the response is there. Spans of the
+    /// handler's own, which end on `pass`, are children of `span.context()`.
     ///
     /// # Errors
     ///
     /// `AllocError` where memory was refused; the request is then answered by 503. For any other
     /// fault the handler has a response of its own.
-    fn handle(
+    fn handle<O: Origin>(
         &mut self,
         request: &Request<Bytes>,
-        parent: Option<&SpanContext>,
+        span: &mut RequestSpan<O>,
         pass: &mut P,
         response: &mut Response,
     ) -> Result<(), AllocError>
         requires { IsBlank response.old }
-        ensures ok { OnOk result (answers self.old pass.old request.now (parent_view parent.entry)
-            (Some response.new) self.new pass.new) }
-        ensures err { OnErr result (answers self.old pass.old request.now
-            (parent_view parent.entry) None self.new pass.new) };
+        ensures ok { OnOk result (answers self.old pass.old span.old request.now
+            (Some response.new) self.new pass.new span.new) }
+        ensures err { OnErr result (answers self.old pass.old span.old request.now
+            None self.new pass.new span.new) };
 }

@@ -1,26 +1,23 @@
 //! The service that a server calls.
 
-ghost use Rattle.std.specs.Prelude.{◌≡◌, Some, false, option_map, true};
-ghost use Rattle.http_server.specs.Response.{IsBlank};
+ghost use Rattle.std.specs.Prelude.{◌≡◌, Some, false, true};
 ghost use Rattle.model_span.specs.Starts.{HeldSpan};
-ghost use Rattle.otlp_ids.specs.SpanContext.{parent_view};
 ghost use Rattle.trace_api.specs.Endings.{ending_calls, ending_view};
 ghost use Rattle.trace_api.specs.Ends.{EndsAs};
 ghost use Rattle.traced_server.specs.Attributes.{ending_of, server_view};
-ghost use Rattle.traced_server.specs.Serves.{Answered, serving};
+ghost use Rattle.traced_server.specs.Serves.{serving};
 
 use crate::handler::Handler;
+use crate::lending::{Left, lend};
 use crate::start::Tracing;
-use batch_processor::Clock;
 use bytes::Bytes;
 use http::{Request, StatusCode};
 use http_server::{Response, Service};
-use otlp_ids::SpanContext;
 use otlp_sampler::Sampler;
 use otlp_span::SpanData;
 use rand_core::Rng;
 use std::alloc::{AllocError, Global};
-use trace_api::{EndPass, Ending, Span, count_untraced, end_span};
+use trace_api::{Clock, EndPass, Ending, Span, count_untraced, end_span};
 
 /// A handler whose requests have spans, each of which ends on the pass.
 ///
@@ -34,6 +31,7 @@ pub struct TracedService<'a, S: Sampler, H, P, R, C> {
     handler: H,
     pass: &'a mut P,
     untraced: u64,
+    left_out: u64,
 }
 
 impl<'a, S: Sampler, H, P, R, C> TracedService<'a, S, H, P, R, C> {
@@ -52,6 +50,7 @@ impl<'a, S: Sampler, H, P, R, C> TracedService<'a, S, H, P, R, C> {
           handler = handler;
           pass = pass.old;
           untraced = 0;
+          left_out = 0;
         } }
     {
         TracedService {
@@ -60,6 +59,7 @@ impl<'a, S: Sampler, H, P, R, C> TracedService<'a, S, H, P, R, C> {
             handler,
             pass,
             untraced: 0,
+            left_out: 0,
         }
     }
 
@@ -71,40 +71,19 @@ impl<'a, S: Sampler, H, P, R, C> TracedService<'a, S, H, P, R, C> {
         self.untraced
     }
 
+    /// How many calls of the handler on the spans of requests were left out, since memory for them
+    /// was refused. It stops at 2^64 - 1.
+    pub fn left_out(&self) -> u64
+        ensures { result ≡ (serving self.now).left_out }
+    {
+        self.left_out
+    }
+
     /// The handler.
     pub fn handler(&self) -> &H
         ensures { result.now ≡ (serving self.now).handler }
     {
         &self.handler
-    }
-}
-
-/// Fills the response: as the handler does, or as 503 where it has no memory.
-fn answer<P, H: Handler<P>>(
-    handler: &mut H,
-    request: &Request<Bytes>,
-    parent: Option<&SpanContext>,
-    pass: &mut P,
-    response: &mut Response,
-)
-    requires { IsBlank response.old }
-    ensures { Answered H.answers handler.old pass.old request.now (parent_view parent.entry)
-        response.new handler.new pass.new }
-{
-    if handler.handle(request, parent, pass, response).is_ok() {
-        return;
-    }
-    response.clear();
-    response.status = StatusCode::SERVICE_UNAVAILABLE;
-}
-
-/// The context of a span, if there is one.
-fn context_of(span: &Option<Span>) -> Option<&SpanContext>
-    ensures { parent_view result ≡ option_map (λ held. held.context) span.now }
-{
-    match span {
-        Some(span) => Some(span.context()),
-        None => None,
     }
 }
 
@@ -158,11 +137,11 @@ where
         let begun = self.tracing.clock.now();
         let route = self.handler.route(request);
         let span = self.tracing.start_if_any(self.alloc, route, request, begun);
-        let parent = context_of(&span);
-        answer(&mut self.handler, request, parent, self.pass, response);
+        let Left { span, left_out } = lend(&mut self.handler, request, span, self.pass, response);
         let ended = self.tracing.clock.now();
         let has_ended = end(span, response.status, self.pass, ended);
         self.untraced = count_untraced(self.untraced, has_ended);
+        self.left_out = self.left_out.saturating_add(left_out);
         Ok(())
     }
 }

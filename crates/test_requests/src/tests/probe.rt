@@ -1,30 +1,52 @@
 //! A service that the tests ask, and its results.
+use super::spans::lines_of;
 use batch_processor::ManualClock;
 use bytes::{BufMut, Bytes};
 use http::{Request, StatusCode};
 use http_server::{Config, Connection, Response, Service, serve};
-use otlp_ids::SpanContext;
 use otlp_sampler::AlwaysOn;
-use otlp_span::{Resource, Scope, SpanData, SpanLimits, Status};
+use otlp_span::{Kind, Resource, Scope, SpanData, SpanLimits};
 use std::alloc::{AllocError, Global};
-use std::fmt::Write;
 use std::hash::RandomState;
 use std::sync::Arc;
 use std::test::Fail;
-use trace_api::{BodyPass, Provider, WordsRng};
-use traced_server::{Handler, ServerName, TracedService, Tracing};
+use trace_api::{BodyPass, EndPass, Provider, Tracer, WordsRng};
+use traced_server::{Handler, Origin, RequestSpan, ServerName, TracedService, Tracing};
 
 /// The moment of all spans, in nanoseconds since 1970.
 const AT: u64 = 1_000;
 
-/// Answers by the path, and keeps the context that it was given last.
+/// Answers by the path, and keeps the span whose context it was given last.
 #[derive(Drop)]
-struct Probe {
+struct Probe<'a> {
     alloc: Global,
     given: String,
+    /// What spans of its own are made with.
+    tracer: Tracer<'a, AlwaysOn>,
+    rng: WordsRng,
 }
 
-impl<P> Handler<P> for Probe {
+impl Probe<'_> {
+    /// Says what there is to say on the request's span, and does some work within a span of its
+    /// own.
+    fn work<P: EndPass<SpanData>, O: Origin>(&mut self, span: &mut RequestSpan<O>, pass: &mut P) {
+        span.set("user.id", "u1");
+        span.event("read", AT, &[]);
+        let (rng, parent) = (&mut self.rng, span.context());
+        let (name, kind) = ("work", Kind::Internal);
+        if let Ok(mut own) = self
+            .tracer
+            .start_copied(self.alloc, rng, parent, name, kind, AT)
+        {
+            own.end(pass, AT);
+        }
+        span.exception("Full", "", "", AT, &[]);
+        span.set_error("full");
+        span.rename("worked");
+    }
+}
+
+impl<P: EndPass<SpanData>> Handler<P> for Probe<'_> {
     fn route(&self, request: &Request<Bytes>) -> Option<&str> {
         match request.uri().path() {
             "/item/7" => Some("/item/{id}"),
@@ -33,21 +55,22 @@ impl<P> Handler<P> for Probe {
         }
     }
 
-    fn handle(
+    fn handle<O: Origin>(
         &mut self,
         request: &Request<Bytes>,
-        parent: Option<&SpanContext>,
-        _pass: &mut P,
+        span: &mut RequestSpan<O>,
+        pass: &mut P,
         response: &mut Response,
     ) -> Result<(), AllocError> {
         let alloc = self.alloc;
-        self.given = match parent {
+        self.given = match span.context() {
             Some(context) => format!(in alloc; "{}", context.span)?,
             None => String::new(alloc),
         };
         match request.uri().path() {
             "/fails" => response.status = StatusCode::BAD_GATEWAY,
             "/memory" => return Err(AllocError),
+            "/works" => self.work(span, pass),
             _ => response.body.put_slice(b"hi")?,
         }
         Ok(())
@@ -59,38 +82,12 @@ impl<P> Handler<P> for Probe {
 pub(crate) struct Came {
     /// What it wrote.
     pub(crate) output: Vec<u8>,
-    /// A line for each span: its name, its identifier and its parent's, its status, its attributes.
+    /// A line for each span.
     pub(crate) spans: String,
     /// The span of the context that the handler was given last.
     pub(crate) given: String,
-    /// How many requests have no span.
-    pub(crate) untraced: u64,
-}
-
-/// Adds the line of a span.
-fn push_span(lines: &mut String, span: &SpanData) -> Result<(), Fail> {
-    let id = span.context().span;
-    write!(lines, "{} {id}", span.name())?;
-    if let Some(parent) = span.parent_span_id() {
-        write!(lines, " of {parent}")?;
-    }
-    if let Status::Error(_) = span.status() {
-        write!(lines, " error")?;
-    }
-    for (key, value) in span.attributes() {
-        write!(lines, " {key}={value:?}")?;
-    }
-    writeln!(lines)?;
-    Ok(())
-}
-
-/// A line for each span.
-fn lines_of(alloc: Global, spans: &[SpanData]) -> Result<String, Fail> {
-    let mut lines = String::new(alloc);
-    for span in spans {
-        push_span(&mut lines, span)?;
-    }
-    Ok(lines)
+    /// How many requests have no span, and how many calls were left out.
+    pub(crate) untraced: (u64, u64),
 }
 
 /// Answers the requests of a connection: what is written.
@@ -120,11 +117,13 @@ pub(crate) fn answer(rt: &HostRuntime, words: &[u64], input: &[u8]) -> Result<Ca
     let probe = Probe {
         alloc,
         given: String::new(alloc),
+        tracer: provider.tracer(Arc::new(alloc, Scope::named(alloc, "own")?)?),
+        rng: WordsRng::new(Vec::from_slice(alloc, &[0xaa])?),
     };
     let mut service = TracedService::new(alloc, tracing, probe, &mut pass);
     let output = serve_all(rt, &mut service, input);
     let given = service.handler().given.as_str().to_string(alloc);
-    let untraced = service.untraced();
+    let untraced = (service.untraced(), service.left_out());
     drop(service);
     Ok(Came {
         output: output?,

@@ -12,19 +12,19 @@ fn each_request_has_a_span_whose_parent_is_what_it_carried(rt: HostRuntime) -> R
         traceparent: 00-000000000000000000000000000000aa-00000000000000bb-01\r\n\r\n\
         POST /fails HTTP/1.1\r\nHost: h\r\nContent-Length: 2\r\n\r\nhi";
     let came = answer(&rt, &WORDS, input)?;
-    let spans = "GET /item/{id} 0000000000000001 of 00000000000000bb \
+    let spans = "GET /item/{id} Server 0000000000000001 of 00000000000000bb \
         http.request.method=Text(\"GET\") url.path=Text(\"/item/7\") url.scheme=Text(\"http\") \
         server.address=Text(\"example.org\") server.port=Int(80) \
         network.protocol.version=Text(\"1.1\") http.route=Text(\"/item/{id}\") \
         user_agent.original=Text(\"t/1\") http.response.status_code=Int(200)\n\
-        POST /fails 0000000000000004 error \
+        POST /fails Server 0000000000000004 error \
         http.request.method=Text(\"POST\") url.path=Text(\"/fails\") url.scheme=Text(\"http\") \
         server.address=Text(\"example.org\") server.port=Int(80) \
         network.protocol.version=Text(\"1.1\") http.route=Text(\"/fails\") \
         http.response.status_code=Int(502) error.type=Text(\"502\")\n";
     assert_equal(&rt, came.spans.as_str(), spans);
     assert_equal(&rt, came.given.as_str(), "0000000000000004");
-    assert_equal(&rt, came.untraced, 0);
+    assert_equal(&rt, came.untraced, (0, 0));
     let output = b"HTTP/1.1 200 OK\r\ncontent-length: 2\r\n\r\nhi\
         HTTP/1.1 502 Bad Gateway\r\ncontent-length: 0\r\n\r\n";
     assert_equal(&rt, came.output.as_slice(), output.as_slice());
@@ -34,7 +34,7 @@ fn each_request_has_a_span_whose_parent_is_what_it_carried(rt: HostRuntime) -> R
 #[test]
 fn a_handler_without_memory_is_answered_503(rt: HostRuntime) -> Result<(), Fail> {
     let came = answer(&rt, &WORDS, b"BREW /memory HTTP/1.0\r\n\r\n")?;
-    let spans = "HTTP 0000000000000003 error \
+    let spans = "HTTP Server 0000000000000003 error \
         http.request.method=Text(\"_OTHER\") url.path=Text(\"/memory\") \
         url.scheme=Text(\"http\") server.address=Text(\"example.org\") server.port=Int(80) \
         network.protocol.version=Text(\"1.0\") http.request.method_original=Text(\"BREW\") \
@@ -51,8 +51,22 @@ fn a_request_without_a_span_is_answered_and_counted(rt: HostRuntime) -> Result<(
     let came = answer(&rt, &[], b"GET / HTTP/1.1\r\nHost: h\r\n\r\n")?;
     assert_equal(&rt, came.spans.as_str(), "");
     assert_equal(&rt, came.given.as_str(), "");
-    assert_equal(&rt, came.untraced, 1);
+    assert_equal(&rt, came.untraced, (1, 0));
     let output = b"HTTP/1.1 200 OK\r\ncontent-length: 2\r\n\r\nhi";
     assert_equal(&rt, came.output.as_slice(), output.as_slice());
+    Ok(())
+}
+
+#[test]
+fn what_a_handler_says_is_on_the_span_and_its_own_is_a_child(rt: HostRuntime) -> Result<(), Fail> {
+    let came = answer(&rt, &WORDS, b"GET /works HTTP/1.1\r\nHost: h\r\n\r\n")?;
+    let spans = "work Internal 00000000000000aa of 0000000000000003\n\
+        worked Server 0000000000000003 error \
+        http.request.method=Text(\"GET\") url.path=Text(\"/works\") url.scheme=Text(\"http\") \
+        server.address=Text(\"example.org\") server.port=Int(80) \
+        network.protocol.version=Text(\"1.1\") user.id=Text(\"u1\") \
+        http.response.status_code=Int(200) at 1000: read at 1000: exception\n";
+    assert_equal(&rt, came.spans.as_str(), spans);
+    assert_equal(&rt, came.untraced, (0, 0));
     Ok(())
 }

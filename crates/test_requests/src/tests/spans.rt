@@ -4,7 +4,8 @@ use std::alloc::Global;
 use std::fmt::Write;
 use std::test::Fail;
 
-/// Adds the line of a span: its name, its identifier, its parent's, its status, its attributes.
+/// Adds the line of a span: its name, its kind, its identifier, its parent's, its status, its
+/// attributes, its events.
 fn push_span(lines: &mut String, span: &SpanData) -> Result<(), Fail> {
     let id = span.context().span;
     write!(lines, "{} {:?} {id}", span.name(), span.kind())?;
@@ -16,6 +17,9 @@ fn push_span(lines: &mut String, span: &SpanData) -> Result<(), Fail> {
     }
     for (key, value) in span.attributes() {
         write!(lines, " {key}={value:?}")?;
+    }
+    for event in span.events() {
+        write!(lines, " at {}: {}", event.timestamp, event.name)?;
     }
     writeln!(lines)?;
     Ok(())

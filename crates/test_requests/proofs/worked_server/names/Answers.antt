@@ -1,5 +1,5 @@
 use Rattle.std.proofs.Common.{refl}
-use Rattle.traced_server.specs.Methods.{is_known}
+use Rattle.http_method.specs.Methods.{is_known}
 use Rattle.test_requests.proofs.worked_server.names.Goals as goal
 
 pub returns-clause-route : goal.returns-clause-route
