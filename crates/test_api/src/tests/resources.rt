@@ -46,14 +46,16 @@ const SHOP: [(&str, &str); 5] = [
     ("a", "1"),
 ];
 
+/// More calls for memory than it takes to make the resource, and to put the attributes over it.
+const CALLS: u64 = 32;
+
 #[test]
 fn the_resource_of_a_service_is_refused_memory_in_turn(rt: HostRuntime) {
     let heap = LocalHeap::new(rt.alloc(), 8192).expect(&rt, "memory");
     let ample = FailingAllocator::new(&heap, u64::MAX);
     let made = resource(&rt, &ample, &ample, &SET).expect(&rt, "memory");
     assert_texts(&rt, &made, &SHOP);
-    let mut fail_index = 0u64;
-    while fail_index < 64 {
+    for fail_index in 0..CALLS {
         let scarce = FailingAllocator::new(&heap, fail_index);
         let refused = resource(&rt, &ample, &scarce, &SET).is_err();
         assert_equal(
@@ -61,12 +63,7 @@ fn the_resource_of_a_service_is_refused_memory_in_turn(rt: HostRuntime) {
             (fail_index, refused),
             (fail_index, scarce.has_failed()),
         );
-        if !refused {
-            return;
-        }
-        fail_index += 1;
     }
-    assert_equal(&rt, fail_index, 0);
 }
 
 #[test]
