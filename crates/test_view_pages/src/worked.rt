@@ -9,8 +9,8 @@ ghost use Rattle.view_pages.specs.Dates.{moment_html};
 ghost use Rattle.view_pages.specs.Html.{html_bytes};
 ghost use Rattle.view_pages.specs.Reading.{number_in, places_in};
 ghost use Rattle.view_pages.specs.Rows.{bad_html, depth_html, id_html, level_of, remark_html};
-ghost use Rattle.view_pages.specs.Services.{colour_of, with_name};
-ghost use Rattle.view_pages.specs.Spans.{service_in};
+ghost use Rattle.trace_lines.specs.Services.{colour_of, with_name};
+ghost use Rattle.trace_lines.specs.Spans.{service_in};
 ghost use Rattle.view_pages.specs.Times.{duration, share_of};
 
 /// The rows that are read of a page.

@@ -1,81 +1,72 @@
--- What a page that is written in pieces still writes.
+-- What a page still writes, by the plan of its rows.
 use Rattle.std.proofs.Common.{◌≡◌, sym, ap, subst, ◌∙◌, ℕ, ◌+◌, ◌<◌, ◌^◌, List, ◌++◌}
 use Rattle.std.proofs.Common.{length, length-append, map, append_assoc, arith}
 use Rattle.std.specs.Arc.{arc_value}
 use Rattle.std.specs.declared.sync.Arc.{Arc}
-use Rattle.std.specs.Borrow.{Bor}
 use Rattle.std.proofs.lemmas.List.{length-map}
 use Rattle.trace_tree.specs.Order.{ArePlaces}
+use Rattle.trace_tree.specs.declared.draw.Frame.{Frame}
 use Rattle.trace_tree.specs.declared.span.Row.{Row}
 use Rattle.trace_store.specs.declared.span.ViewSpan.{ViewSpan}
+use Rattle.trace_lines.specs.Lines.{line_for}
+use Rattle.trace_lines.specs.Plans.{IsPlan, tree_span, values}
+use Rattle.trace_lines.specs.Spans.{frame_of}
+use Rattle.trace_lines.specs.declared.line.Line.{Line}
 use Rattle.view_pages.specs.Html.{Html, html_bytes, ◌▹◌}
-use Rattle.view_pages.specs.Lines.{line_for}
-use Rattle.view_pages.specs.Pages.{AreLent, DrawsPage, end_html, head_html, start_html, title_html}
+use Rattle.view_pages.specs.Pages.{DrawsPage, end_html, head_html, start_html, title_html}
 use Rattle.view_pages.specs.Pages.{trace_html}
-use Rattle.view_pages.specs.Pieces.{IsPlan, lines_html}
+use Rattle.view_pages.specs.Pieces.{lines_html}
 use Rattle.view_pages.specs.Reading.{places_in}
 use Rattle.view_pages.specs.Rows.{PageRow, row_html}
-use Rattle.view_pages.specs.Spans.{frame_of}
-use Rattle.view_pages.specs.declared.line.Line.{Line}
-use Rattle.view_pages.specs.declared.times.Frame.{Frame}
 use Rattle.view_pages.proofs.Lines.{same_rows}
 use Rattle.view_pages.proofs.Shows.{shows_each}
 
--- spans that are lent are as many as those that own them
-pub as_many : {A : Type 0} (spans : List (Arc (ViewSpan A) A)) (lent : List (Bor (ViewSpan A)))
-    → AreLent spans lent → length lent ≡ length spans
-as_many spans lent same =
-    sym (length-map lent (λ b. b.now)) ∙ ap length same ∙ length-map spans arc_value
+module _ {A : Type 0} (trace : ℕ) (spans : List (Arc (ViewSpan A) A)) where
+  -- what is to be written by a plan
+  abbrev pub planned : List Line → Frame → Html
+  planned lines frame =
+      head_html trace (length spans) frame ▹ lines_html spans frame lines ▹ end_html
 
--- what is to be written by a plan
-abbrev pub planned : {A : Type 0} → ℕ → List (Arc (ViewSpan A) A) → List Line → Frame → Html
-planned trace spans lines frame =
-    head_html trace (length spans) frame ▹ lines_html spans frame lines ▹ end_html
+  as_many : length (values spans) ≡ length spans
+  as_many = length-map spans arc_value
 
-planned_by : {A : Type 0} (trace : ℕ) (spans : List (Arc (ViewSpan A) A))
-    (lent : List (Bor (ViewSpan A))) (rows : List Row)
-    → AreLent spans lent
-    → planned trace spans (map (line_for lent) rows) (frame_of lent) ≡ trace_html trace lent rows
-unfolding trace_html
-planned_by trace spans lent rows same =
-    ap (λ n. head_html trace n (frame_of lent)
-    ▹ lines_html spans (frame_of lent) (map (line_for lent) rows) ▹ end_html)
-    (sym (as_many spans lent same))
-    ∙ ap (λ h. head_html trace (length lent) (frame_of lent) ▹ h ▹ end_html)
-    (same_rows spans lent (frame_of lent) rows same)
+  planned_by : (rows : List Row)
+      → planned (map (line_for (values spans)) rows) (frame_of (values spans))
+      ≡ trace_html trace (values spans) rows
+  unfolding trace_html
+  planned_by rows =
+      let frame = frame_of (values spans) in
+      ap (λ n. head_html trace n frame
+      ▹ lines_html spans frame (map (line_for (values spans)) rows) ▹ end_html)
+      (sym as_many)
+      ∙ ap (λ h. head_html trace (length (values spans)) frame ▹ h ▹ end_html)
+      (same_rows spans frame rows)
 
-planned_is : {A : Type 0} (trace : ℕ) (spans : List (Arc (ViewSpan A) A)) (lines : List Line)
-    (frame : Frame) (plan : IsPlan spans lines frame)
-    → planned trace spans lines frame ≡ trace_html trace plan.lent plan.rows
-planned_is trace spans lines frame plan =
-    ap (λ l. planned trace spans l frame) plan.lines_are
-    ∙ ap (λ f. planned trace spans (map (line_for plan.lent) plan.rows) f) plan.frame_is
-    ∙ planned_by trace spans plan.lent plan.rows plan.are_lent
+  planned_is : (lines : List Line) (frame : Frame) (plan : IsPlan spans lines frame)
+      → planned lines frame ≡ trace_html trace (values spans) plan.rows
+  planned_is lines frame plan =
+      ap (λ l. planned l frame) plan.lines_are
+      ∙ ap (planned (map (line_for (values spans)) plan.rows)) plan.frame_is
+      ∙ planned_by plan.rows
 
--- a plan is that of the page
-pub draws : {A : Type 0} (trace : ℕ) (spans : List (Arc (ViewSpan A) A)) (lines : List Line)
-    (frame : Frame)
-    → IsPlan spans lines frame
-    → DrawsPage trace spans (html_bytes (planned trace spans lines frame))
-draws trace spans lines frame plan = (
-  plan.lent,
-  plan.are_lent,
-  plan.rows,
-  plan.are_rows,
-  ap html_bytes (planned_is trace spans lines frame plan),
-)
+  -- A plan is that of the page.
+  pub draws : (lines : List Line) (frame : Frame) → IsPlan spans lines frame
+      → DrawsPage trace spans (html_bytes (planned lines frame))
+  draws lines frame plan =
+      (plan.rows, plan.are_rows, ap html_bytes (planned_is lines frame plan))
 
--- The rows that are read of a planned page are the places of the list, each once.
-pub reads_back : {A : Type 0} (trace : ℕ) (spans : List (Arc (ViewSpan A) A)) (lines : List Line)
-    (frame : Frame)
-    → length spans < 2 ^ 64 → IsPlan spans lines frame
-    → ArePlaces (length spans) (places_in (html_bytes (planned trace spans lines frame)))
-reads_back trace spans lines frame small plan =
-    let many = as_many spans plan.lent plan.are_lent in
-    subst (λ n. ArePlaces n (places_in (html_bytes (planned trace spans lines frame)))) many
-    (subst (λ h. ArePlaces (length plan.lent) (places_in (html_bytes h)))
-    (sym (planned_is trace spans lines frame plan))
-    (shows_each trace plan.lent plan.rows (omega (arith, many)) plan.are_rows.each_once))
+  -- The rows that are read of a planned page are the places of the list, each once.
+  pub reads_back : (lines : List Line) (frame : Frame)
+      → length spans < 2 ^ 64 → IsPlan spans lines frame
+      → ArePlaces (length spans) (places_in (html_bytes (planned lines frame)))
+  reads_back lines frame small plan =
+      let each : ArePlaces (length (values spans)) (map (λ (r : Row). r.index) plan.rows) =
+      subst (λ n. ArePlaces n (map (λ (r : Row). r.index) plan.rows))
+      (length-map (values spans) tree_span) plan.are_rows.each_once in
+      subst (λ n. ArePlaces n (places_in (html_bytes (planned lines frame)))) as_many
+      (subst (λ h. ArePlaces (length (values spans)) (places_in (html_bytes h)))
+      (sym (planned_is lines frame plan))
+      (shows_each trace (values spans) plan.rows (omega (arith, as_many)) each))
 
 -- a head is written, and then what comes after it
 pub after_head : (head rest : Html) (text : List ℕ) → text ≡ html_bytes head

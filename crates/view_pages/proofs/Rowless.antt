@@ -33,8 +33,8 @@ use Rattle.view_pages.specs.Times.{duration, scaled}
 use Rattle.view_pages.specs.Values.{pair_html, pairs_html, value_html, values_html}
 use Rattle.view_pages.specs.declared.date.MonthDay.{MonthDay}
 use Rattle.view_pages.specs.declared.date.YearDay.{YearDay}
-use Rattle.view_pages.specs.declared.line.Line.{Line}
-use Rattle.view_pages.specs.declared.times.Frame.{Frame}
+use Rattle.trace_lines.specs.declared.line.Line.{Line}
+use Rattle.trace_tree.specs.declared.draw.Frame.{Frame}
 use Rattle.view_pages.proofs.Doubles.{lacks_double}
 use Rattle.view_pages.proofs.Reading.{IsRowless, is_rowless, rowless_text}
 

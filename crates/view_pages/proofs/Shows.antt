@@ -2,8 +2,7 @@
 use Rattle.std.proofs.Common.{◌≡◌, refl, sym, ap, subst, ◌∙◌, ℕ, zero, suc, ◌+◌, ◌<◌, ◌≤◌, ◌^◌}
 use Rattle.std.proofs.Common.{List, [], ◌∷◌, ◌++◌, length, map, append_assoc, append-nil, codes}
 use Rattle.std.proofs.Common.{arith, All}
-use Rattle.std.specs.Prelude.{decimal, option_map, slice_get}
-use Rattle.std.specs.Borrow.{Bor}
+use Rattle.std.specs.Prelude.{decimal, slice_get}
 use Rattle.std.specs.List.{AllByRecursion, range_with_len}
 use Rattle.std.proofs.lemmas.List.Elements.{All-cons, All-head, All-nil, All-tail}
 use Rattle.std.proofs.lemmas.List.Sorted.{All-permutation}
@@ -11,12 +10,12 @@ use Rattle.trace_tree.specs.Order.{ArePlaces}
 use Rattle.trace_tree.specs.declared.span.Row.{Row}
 use Rattle.trace_store.specs.declared.span.ViewSpan.{ViewSpan}
 use Rattle.view_pages.specs.Html.{Html, html_bytes, each}
-use Rattle.view_pages.specs.Lines.{line_for}
+use Rattle.trace_lines.specs.Lines.{line_for}
 use Rattle.view_pages.specs.Pages.{head_html, trace_html}
 use Rattle.view_pages.specs.Reading.{places_in, row_start}
 use Rattle.view_pages.specs.Rows.{page_row, page_rows, row_html, span_rest}
-use Rattle.view_pages.specs.Spans.{frame_of}
-use Rattle.view_pages.specs.declared.times.Frame.{Frame}
+use Rattle.trace_lines.specs.Spans.{frame_of}
+use Rattle.trace_tree.specs.declared.draw.Frame.{Frame}
 use Rattle.view_pages.proofs.Reading.{reads_row, skip_parts}
 use Rattle.view_pages.proofs.Rowless.{rowless_head, rowless_rest}
 
@@ -24,11 +23,11 @@ use Rattle.view_pages.proofs.Rowless.{rowless_head, rowless_rest}
 abbrev pub HasPlace : Row → Type 0
 HasPlace row = row.index < 2 ^ 64
 
-abbrev row_rest : {A : Type 0} → List (Bor (ViewSpan A)) → Frame → Row → Html
+abbrev row_rest : {A : Type 0} → List (ViewSpan A) → Frame → Row → Html
 row_rest spans frame row =
-    span_rest (option_map (λ b. b.now) (slice_get spans row.index)) (line_for spans row) frame
+    span_rest (slice_get spans row.index) (line_for spans row) frame
 
-row_bytes : {A : Type 0} (spans : List (Bor (ViewSpan A))) (frame : Frame) (row : Row)
+row_bytes : {A : Type 0} (spans : List (ViewSpan A)) (frame : Frame) (row : Row)
     (rest : List ℕ)
     → html_bytes (row_html (page_row spans frame row)) ++ rest
     ≡ row_start ++ (decimal row.index ++ 39 ∷ (html_bytes (row_rest spans frame row) ++ rest))
@@ -39,7 +38,7 @@ row_bytes spans frame row rest =
     ∙ ap (λ l. row_start ++ l) (append_assoc (decimal row.index) (39 ∷ content) rest)
 
 -- each row says its place
-reads_rows : {A : Type 0} (spans : List (Bor (ViewSpan A))) (frame : Frame) (rows : List Row)
+reads_rows : {A : Type 0} (spans : List (ViewSpan A)) (frame : Frame) (rows : List Row)
     (rest : List ℕ)
     → AllByRecursion HasPlace rows
     → places_in (html_bytes (each row_html (map (page_row spans frame) rows)) ++ rest)
@@ -55,11 +54,11 @@ reads_rows spans frame (row ∷ rows) rest h =
     ∙ reads_row row.index (html_bytes content ++ (others ++ rest)) h.0
     ∙ ap (λ l. row.index ∷ l)
     (skip_parts content (others ++ rest)
-    (rowless_rest (option_map (λ b. b.now) (slice_get spans row.index)) (line_for spans row) frame)
+    (rowless_rest (slice_get spans row.index) (line_for spans row) frame)
     ∙ reads_rows spans frame rows rest h.1)
 
 -- the page shows the places of its rows, one after the other
-pub page_shows : {A : Type 0} (trace : ℕ) (spans : List (Bor (ViewSpan A))) (rows : List Row)
+pub page_shows : {A : Type 0} (trace : ℕ) (spans : List (ViewSpan A)) (rows : List Row)
     → AllByRecursion HasPlace rows
     → places_in (html_bytes (trace_html trace spans rows)) ≡ map (λ (r : Row). r.index) rows
 unfolding html_bytes trace_html places_in
@@ -87,7 +86,7 @@ have_places (row ∷ rows) h =
     )
 
 -- the page of rows that have each place once shows each place once
-pub shows_each : {A : Type 0} (trace : ℕ) (spans : List (Bor (ViewSpan A))) (rows : List Row)
+pub shows_each : {A : Type 0} (trace : ℕ) (spans : List (ViewSpan A)) (rows : List Row)
     → length spans ≤ 2 ^ 64
     → ArePlaces (length spans) (map (λ (r : Row). r.index) rows)
     → ArePlaces (length spans) (places_in (html_bytes (trace_html trace spans rows)))

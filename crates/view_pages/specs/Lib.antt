@@ -1,16 +1,11 @@
 pub mod Dates
 pub mod Html
-pub mod Lines
 pub mod Lists
 pub mod Pages
 pub mod Panels
 pub mod Queries
 pub mod Pieces
 pub mod Reading
-pub mod Repeats
 pub mod Rows
-pub mod Services
-pub mod Spans
-pub mod Texts
 pub mod Times
 pub mod Values

@@ -1,8 +1,7 @@
 -- The rows of the page of a trace.
 use Rattle.std.specs.Prelude.{ℕ, ◌+◌, ◌-◌, ◌^◌, ◌==◌, min, Bool, true, false, if◌then◌else◌, Option}
-use Rattle.std.specs.Prelude.{Some, None, option_map, List, length, map, codes, slice_get}
+use Rattle.std.specs.Prelude.{Some, None, List, length, map, codes, slice_get}
 use Rattle.std.specs.Prelude.{string_bytes}
-use Rattle.std.specs.Borrow.{Bor}
 use Rattle.otlp_read.specs.declared.span.Event.{Event}
 use Rattle.otlp_read.specs.declared.span.Span.{Span}
 use Rattle.trace_tree.specs.declared.span.Place.{Place}
@@ -11,12 +10,12 @@ use Rattle.trace_tree.specs.declared.span.Row.{Row}
 use Rattle.trace_store.specs.declared.span.ViewSpan.{ViewSpan}
 use Rattle.view_pages.specs.Html.{Html, Nothing, Markup, Text, Number, Digits, ◌▹◌, each}
 use Rattle.view_pages.specs.Panels.{panel_html}
-use Rattle.view_pages.specs.Lines.{line_for}
-use Rattle.view_pages.specs.Spans.{end_of, ends_early, frame_of, is_error}
-use Rattle.view_pages.specs.Spans.{service_of, time_of}
+use Rattle.trace_lines.specs.Lines.{line_for}
+use Rattle.trace_lines.specs.Spans.{end_of, ends_early, frame_of, is_error}
+use Rattle.trace_lines.specs.Spans.{service_of, time_of}
 use Rattle.view_pages.specs.Times.{duration, share_of}
-use Rattle.view_pages.specs.declared.line.Line.{Line}
-use Rattle.view_pages.specs.declared.times.Frame.{Frame}
+use Rattle.trace_lines.specs.declared.line.Line.{Line}
+use Rattle.trace_tree.specs.declared.draw.Frame.{Frame}
 
 -- words that are said where something holds
 unfoldable pub remark_html : Bool → List ℕ → Html
@@ -129,11 +128,11 @@ pub record PageRow : Type 0 where
   pub content : Html
 
 -- the row of the span in a place, among these spans
-abbrev pub page_row : {A : Type 0} → List (Bor (ViewSpan A)) → Frame → Row → PageRow
+abbrev pub page_row : {A : Type 0} → List (ViewSpan A) → Frame → Row → PageRow
 page_row spans frame row = record {
   place = row.index;
   content =
-      span_rest (option_map (λ b. b.now) (slice_get spans row.index)) (line_for spans row) frame;
+      span_rest (slice_get spans row.index) (line_for spans row) frame;
 }
 
 -- a row begins with the place of its span
@@ -142,5 +141,5 @@ row_html row =
     Markup (codes "<li data-row='") ▹ Number row.place ▹ Markup (codes "'") ▹ row.content
 
 -- a row for each of these
-abbrev pub page_rows : {A : Type 0} → List (Bor (ViewSpan A)) → List Row → List PageRow
+abbrev pub page_rows : {A : Type 0} → List (ViewSpan A) → List Row → List PageRow
 page_rows spans rows = map (page_row spans (frame_of spans)) rows

@@ -1,7 +1,7 @@
 -- When spans are, within the time of their trace.
 use Rattle.std.specs.Prelude.{ℕ, ◌-◌, ◌*◌, ◌/◌, ◌%◌, min, ◌==◌, nat_lt, if◌then◌else◌, List, codes}
 use Rattle.view_pages.specs.Html.{Html, Markup, Number, ◌▹◌}
-use Rattle.view_pages.specs.declared.times.Frame.{Frame}
+use Rattle.trace_tree.specs.declared.draw.Frame.{Frame}
 
 -- how long after the start of the trace a time is, in ten thousandths of the time that it takes
 unfoldable pub share_of : Frame → ℕ → ℕ

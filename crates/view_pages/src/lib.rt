@@ -6,22 +6,16 @@
 #![tactic(auto)]
 
 mod date;
-mod facts;
 mod filter;
 mod html;
-mod line;
 mod list;
 mod page;
 mod panel;
 mod pieces;
-mod repeat;
 mod row;
-mod service;
 mod style;
 mod summary;
-mod text;
 mod times;
-mod tree;
 mod value;
 
 pub use filter::{Filter, FilterFault};
@@ -29,4 +23,3 @@ pub use list::{write_list_page, write_notice_page};
 pub use pieces::TracePage;
 pub use style::STYLE;
 pub use summary::{Summary, summary_of_digest};
-pub use text::TraceText;

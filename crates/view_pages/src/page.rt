@@ -3,14 +3,13 @@
 ghost use Rattle.std.specs.Prelude.{◌≡◌, ◌++◌, OnOk, string_bytes};
 ghost use Rattle.view_pages.specs.Html.{html_bytes};
 ghost use Rattle.view_pages.specs.Pages.{axis_html, counts_html, end_html, head_html, start_html};
-ghost use Rattle.view_pages.specs.Pages.{title_html, whole_of};
+ghost use Rattle.view_pages.specs.Pages.{title_html};
 
-use crate::facts::frame_of;
 use crate::html::{push_digits, push_markup, push_number};
-use crate::times::{Frame, push_duration};
+use crate::times::push_duration;
 use otlp_ids::OutOfMemory;
 use std::alloc::Allocator;
-use trace_store::ViewSpan;
+use trace_tree::Frame;
 
 /// Appends what each page begins with, up to its title.
 pub(crate) fn push_start<A: Allocator>(out: &mut String<A>) -> Result<(), OutOfMemory>
@@ -59,14 +58,6 @@ fn push_counts<A: Allocator + Copy>(
     push_markup(out, ". <a href='/trace/")?;
     push_digits(out, trace)?;
     push_markup(out, ".txt'>As text</a></p></header><main>")
-}
-
-/// How long a trace took: the time from the earliest start to the latest end.
-pub(crate) fn whole_of<A: Allocator>(spans: &[&ViewSpan<A>]) -> u64
-    ensures { result ≡ whole_of spans.now }
-{
-    let frame = frame_of(spans);
-    frame.until.saturating_sub(frame.from)
 }
 
 /// Appends the axis of the bars: the time from the earliest start, at each quarter of the whole.

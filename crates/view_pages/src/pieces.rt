@@ -1,26 +1,26 @@
 //! The page of a trace, written in pieces.
 
-ghost use Rattle.std.specs.Prelude.{◌≡◌, ◌<◌, ℕ, true, false, List, [], ◌++◌, length, drop};
-ghost use Rattle.std.specs.Prelude.{IfOk, OnOk, OnErr, string_bytes, vec_len};
+ghost use Rattle.std.specs.Prelude.{◌≡◌, ◌<◌, ◌⊎◌, ℕ, true, false, List, ◌++◌, length, drop};
+ghost use Rattle.std.specs.Prelude.{[], IfOk, OnOk, OnErr, string_bytes, vec_len};
 ghost use Rattle.trace_tree.specs.Order.{ArePlaces};
+ghost use Rattle.trace_lines.specs.Comes.{is_planned, steps_left};
+ghost use Rattle.trace_lines.specs.Parts.{IsBelow};
 ghost use Rattle.view_pages.specs.Html.{html_bytes};
 ghost use Rattle.view_pages.specs.Pages.{DrawsPage};
-ghost use Rattle.view_pages.specs.Pieces.{IsPlan, is_end, left_html, lines_html, still_writes};
+ghost use Rattle.view_pages.specs.Pieces.{StillWrites, is_end, lines_html, page_html};
 ghost use Rattle.view_pages.specs.Reading.{places_in};
 
-use crate::facts::frame_of;
-use crate::line::{Line, lines_of};
 use crate::page::{push_end, push_head};
 use crate::row::push_line;
-use crate::times::Frame;
-use crate::tree::{lend, rows_of};
 use otlp_ids::OutOfMemory;
 use std::alloc::{Allocator, Global};
 use std::sync::Arc;
+use trace_lines::{Line, TraceLines};
 use trace_store::ViewSpan;
+use trace_tree::Frame;
 
 /// A piece ends with the row with which it has so many bytes.
-pub(crate) const PIECE: usize = 65_536;
+const PIECE: usize = 65_536;
 
 /// How far a page is written.
 #[derive(Clone, Copy)]
@@ -60,23 +60,8 @@ fn is_end(stage: Stage) -> bool
 pub struct TracePage<A: Allocator + Copy = Global> {
     alloc: A,
     trace: u128,
-    spans: Vec<Arc<ViewSpan<A>, A>, A>,
-    lines: Vec<Line, A>,
-    frame: Frame,
+    rows: TraceLines<A>,
     stage: Stage,
-}
-
-/// What is known of each row, and the time that the trace takes.
-pub(crate) fn plan_of<A: Allocator + Copy>(
-    alloc: A,
-    spans: &[Arc<ViewSpan<A>, A>],
-) -> Result<(Vec<Line, A>, Frame), OutOfMemory>
-    ensures { IfOk result (λ plan. IsPlan spans.now plan.0.items plan.1) }
-{
-    let lent = lend(alloc, spans)?;
-    let rows = rows_of(alloc, &lent)?;
-    let lines = lines_of(alloc, &lent, &rows)?;
-    Ok((lines, frame_of(&lent)))
 }
 
 /// Appends the rows of lines from one on, at least that one, until the text has `PIECE` bytes or
@@ -108,50 +93,40 @@ fn push_lines<A: Allocator + Copy>(
 }
 
 impl<A: Allocator + Copy> TracePage<A> {
-    /// The page of the trace with this number and these spans, of which nothing is written.
-    ///
-    /// Its steps are about as many as the spans times the logarithm of that.
-    ///
-    /// # Errors
-    ///
-    /// `OutOfMemory` where there is no room for what is known of each row.
-    pub fn new(
-        alloc: A,
-        trace: u128,
-        spans: Vec<Arc<ViewSpan<A>, A>, A>,
-    ) -> Result<TracePage<A>, OutOfMemory>
-        ensures page { IfOk result (λ page.
-            DrawsPage trace spans.items (html_bytes (still_writes page))) }
-        ensures read_back { IfOk result (λ page.
-            ArePlaces (length spans.items) (places_in (html_bytes (still_writes page)))) }
+    /// The page of the trace with this number and these spans, of which nothing is planned or
+    /// written. It takes no memory.
+    pub fn new(alloc: A, trace: u128, spans: Vec<Arc<ViewSpan<A>, A>, A>) -> TracePage<A>
+        ensures page { (bytes : List ℕ) → StillWrites result bytes
+            → DrawsPage trace spans.items bytes }
+        ensures read_back { (bytes : List ℕ) → StillWrites result bytes
+            → ArePlaces (length spans.items) (places_in bytes) }
     {
-        let plan = plan_of(alloc, &spans)?;
-        Ok(TracePage {
+        let rows = TraceLines::new(alloc, spans);
+        TracePage {
             alloc,
             trace,
-            spans,
-            lines: plan.0,
-            frame: plan.1,
+            rows,
             stage: Stage::Head,
-        })
+        }
     }
 
-    /// The next piece, and how far the page is written with it.
+    /// The next piece, and how far the page is written with it, once its rows are planned.
     fn piece(&self) -> Result<(String<A>, Stage), OutOfMemory>
-        ensures left { IfOk result (λ p. string_bytes p.0 ++ html_bytes (left_html self.now p.1)
-            ≡ html_bytes (still_writes self.now)) }
+        ensures left { IfOk result (λ p. string_bytes p.0 ++ html_bytes (page_html self.now p.1)
+            ≡ html_bytes (page_html self.now self.now.stage)) }
         ensures more { IfOk result (λ p. is_end p.1 ≡ false → 0 < length (string_bytes p.0)) }
     {
-        let spans: &[Arc<ViewSpan<A>, A>] = &self.spans;
-        let lines: &[Line] = &self.lines;
+        let spans: &[Arc<ViewSpan<A>, A>] = self.rows.spans();
+        let lines: &[Line] = self.rows.lines();
+        let frame = self.rows.frame();
         let mut text = String::new(self.alloc);
         match self.stage {
             Stage::Head => {
-                push_head(&mut text, self.trace, spans.len(), self.frame)?;
+                push_head(&mut text, self.trace, spans.len(), frame)?;
                 Ok((text, Stage::Rows(0)))
             }
             Stage::Rows(at) if at < lines.len() => {
-                let next = push_lines(&mut text, spans, lines, self.frame, at)?;
+                let next = push_lines(&mut text, spans, lines, frame, at)?;
                 Ok((text, Stage::Rows(next)))
             }
             Stage::Rows(_) => {
@@ -162,23 +137,46 @@ impl<A: Allocator + Copy> TracePage<A> {
         }
     }
 
-    /// Appends the next piece of the page, of some 64 KiB and at most one row more. Answers whether
-    /// more follow.
-    ///
-    /// # Errors
-    ///
-    /// `OutOfMemory` where the piece could not be stored. Nothing was appended, and the same piece
-    /// is the next one.
-    pub fn next(&mut self, out: &mut Vec<u8, A>) -> Result<bool, OutOfMemory>
-        ensures piece { OnOk result ((piece : List ℕ) × (out.new.items ≡ out.old.items ++ piece)
-            × (html_bytes (still_writes self.old) ≡ piece ++ html_bytes (still_writes self.new))) }
+    /// Appends the next piece, once its rows are planned. Answers whether more follow.
+    #[tactic(auto, using(crate::proofs::Stages::page_piece))]
+    fn write(&mut self, out: &mut Vec<u8, A>) -> Result<bool, OutOfMemory>
+        ensures piece { is_planned self.old.rows ≡ true → OnOk result ((piece : List ℕ)
+            × (out.new.items ≡ out.old.items ++ piece)
+            × ((more : List ℕ) → StillWrites self.new more
+            → StillWrites self.old (piece ++ more))) }
         ensures more { IfOk result (λ more. more ≡ true → vec_len out.old < vec_len out.new) }
-        ensures end { IfOk result (λ more. more ≡ false → html_bytes (still_writes self.new) ≡ []) }
+        ensures end { is_planned self.old.rows ≡ true
+            → IfOk result (λ more. more ≡ false → StillWrites self.new []) }
         ensures err { OnErr result ((out.new.items ≡ out.old.items) × (self.new ≡ self.old)) }
     {
         let (text, stage) = self.piece()?;
         out.extend_from_slice(text.as_bytes())?;
         self.stage = stage;
         Ok(!is_end(stage))
+    }
+
+    /// Appends the next piece of the page, of some 64 KiB and at most one row more, or appends
+    /// nothing and plans some more of its rows (see [`TraceLines::go_on`]). Answers whether more
+    /// follow.
+    ///
+    /// # Errors
+    ///
+    /// `OutOfMemory` where memory was refused. Nothing was appended. The same piece is the next
+    /// one, or planning begins again.
+    pub fn next(&mut self, out: &mut Vec<u8, A>) -> Result<bool, OutOfMemory>
+        ensures piece { OnOk result ((piece : List ℕ) × (out.new.items ≡ out.old.items ++ piece)
+            × ((more : List ℕ) → StillWrites self.new more
+            → StillWrites self.old (piece ++ more))) }
+        ensures more { IfOk result (λ more. more ≡ true → (vec_len out.old < vec_len out.new)
+            ⊎ IsBelow (steps_left self.new.rows) (steps_left self.old.rows)) }
+        ensures end { IfOk result (λ more. more ≡ false → StillWrites self.new []) }
+        ensures err { OnErr result ((out.new.items ≡ out.old.items)
+            × ((more : List ℕ) → StillWrites self.new more → StillWrites self.old more)) }
+    {
+        if self.rows.is_planned() {
+            return self.write(out);
+        }
+        self.rows.go_on()?;
+        Ok(true)
     }
 }

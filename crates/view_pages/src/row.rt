@@ -9,17 +9,16 @@ ghost use Rattle.view_pages.specs.Rows.{is_cycle, is_orphan, label_html, level_o
 ghost use Rattle.view_pages.specs.Rows.{remark_html, remarks_html, span_html, span_rest};
 ghost use Rattle.view_pages.specs.Rows.{tag_html, tick_html, time_html, width_of};
 
-use crate::facts::{end_of, ends_early, is_error, service_of, time_of};
 use crate::html::{push_digits, push_markup, push_number, push_text};
-use crate::line::Line;
 use crate::panel::push_panel;
-use crate::times::{Frame, push_duration, share_of};
+use crate::times::{push_duration, share_of};
 use otlp_ids::OutOfMemory;
 use otlp_read::{Event, Span};
 use std::alloc::Allocator;
 use std::sync::Arc;
+use trace_lines::{Line, end_of, ends_early, is_error, service_of, time_of};
 use trace_store::ViewSpan;
-use trace_tree::Place;
+use trace_tree::{Frame, Place};
 
 /// Appends words where something holds.
 #[tactic(auto, unfolding(crate::specs::Html::html_bytes, crate::specs::Rows::remark_html))]

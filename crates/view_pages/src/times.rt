@@ -7,15 +7,7 @@ ghost use Rattle.view_pages.specs.Times.{duration, scaled, share_of};
 use crate::html::{push_markup, push_number};
 use otlp_ids::OutOfMemory;
 use std::alloc::Allocator;
-
-/// The time that a trace takes.
-#[derive(Clone, Copy)]
-pub(crate) struct Frame {
-    /// Its earliest start, in nanoseconds since 1970.
-    pub(crate) from: u64,
-    /// Its latest end.
-    pub(crate) until: u64,
-}
+use trace_tree::Frame;
 
 /// How long after the start of the trace a time is, in ten thousandths of the time that it takes:
 /// 0 where it is before, and 10,000 where it is after the end.

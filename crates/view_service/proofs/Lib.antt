@@ -2,4 +2,3 @@ mod Received
 mod Strips
 mod Sums
 mod Zips
-pub mod Written

@@ -2,13 +2,12 @@
 use Rattle.std.specs.Prelude.{◌≡◌, ℕ, List}
 use Rattle.std.specs.declared.sync.Arc.{Arc}
 use Rattle.json.specs.Lex.{tokens}
+use Rattle.trace_lines.specs.Texts.{DrawsText, StillWrites as StillWritesText}
 use Rattle.view_json.specs.Pieces.{StillWrites}
 use Rattle.view_json.specs.Seen.{seen}
 use Rattle.view_json.specs.Spans.{trace_seen}
-use Rattle.view_pages.specs.Html.{html_bytes}
 use Rattle.view_pages.specs.Pages.{DrawsPage}
-use Rattle.view_pages.specs.Pieces.{still_writes}
-use Rattle.view_pages.specs.Texts.{DrawsText, still_text}
+use Rattle.view_pages.specs.Pieces.{StillWrites as StillWritesPage}
 use Rattle.view_service.specs.declared.pages.TraceForm.{TraceForm}
 use Rattle.view_service.specs.declared.pages.TraceForm.TheVariants as forms
 use Rattle.view_service.specs.declared.page.SitePage.{SitePage}
@@ -27,6 +26,6 @@ Draws forms.Json trace spans page = DrawsJson spans page
 
 -- what a page may still write
 abbrev pub SiteWrites : SitePage → List ℕ → Type 0
-SiteWrites (pages.Page page) bytes = html_bytes (still_writes page) ≡ bytes
-SiteWrites (pages.Text text) bytes = still_text text ≡ bytes
+SiteWrites (pages.Page page) bytes = StillWritesPage page bytes
+SiteWrites (pages.Text text) bytes = StillWritesText text bytes
 SiteWrites (pages.Json json) bytes = StillWrites json bytes

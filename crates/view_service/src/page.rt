@@ -2,8 +2,9 @@
 
 use http_connection::Pieces;
 use std::alloc::AllocError;
+use trace_lines::TraceText;
 use view_json::TraceJson;
-use view_pages::{TracePage, TraceText};
+use view_pages::TracePage;
 
 /// What writes a trace, in pieces.
 #[derive(Drop)]

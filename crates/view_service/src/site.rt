@@ -1,7 +1,7 @@
 //! The site.
 
 ghost use Rattle.std.specs.Prelude.{◌≡◌, ◌++◌, IfOk, IsOk, List, OnOk, string_bytes, ℕ};
-ghost use Rattle.view_pages.specs.Texts.{DrawsText};
+ghost use Rattle.trace_lines.specs.Texts.{DrawsText};
 ghost use Rattle.view_service.specs.Drawn.{DrawsJson, Draws, SiteWrites};
 
 use crate::counts::{answered_of, stats_of};
@@ -12,11 +12,10 @@ use crate::site_filter::SiteFilter;
 use crate::{Asked, Counts, ListForm, Listed, Pages, Tallies, TraceForm};
 use std::alloc::{AllocError, Global};
 use std::sync::Arc;
+use trace_lines::TraceText;
 use trace_store::{TraceDigest, ViewSpan};
 use view_json::{TraceJson, write_metrics, write_stats, write_traces};
-use view_pages::{
-    Filter, FilterFault, STYLE, TracePage, TraceText, write_list_page, write_notice_page,
-};
+use view_pages::{Filter, FilterFault, STYLE, TracePage, write_list_page, write_notice_page};
 
 /// The pages of `view_pages`, and the answers for programs of `view_json`.
 #[derive(Clone, Copy, Debug)]
@@ -43,25 +42,18 @@ fn put<E: Drop>(out: &mut Vec<u8>, text: &String, written: Result<(), E>) -> Res
 }
 
 /// The page of a trace.
-fn page_of(alloc: Global, trace: u128, spans: Vec<Arc<ViewSpan>>) -> Result<SitePage, AllocError>
-    ensures { IfOk result (λ page. (bytes : List ℕ) → SiteWrites page bytes
-        → Draws TraceForm.Page trace spans.items bytes) }
+fn page_of(alloc: Global, trace: u128, spans: Vec<Arc<ViewSpan>>) -> SitePage
+    ensures { (bytes : List ℕ) → SiteWrites result bytes
+        → Draws TraceForm.Page trace spans.items bytes }
 {
-    match TracePage::new(alloc, trace, spans) {
-        Ok(page) => Ok(SitePage::Page(page)),
-        Err(_) => Err(AllocError),
-    }
+    SitePage::Page(TracePage::new(alloc, trace, spans))
 }
 
 /// A trace as a text.
-fn text_of(alloc: Global, spans: Vec<Arc<ViewSpan>>) -> Result<SitePage, AllocError>
-    ensures { IfOk result (λ page. (bytes : List ℕ) → SiteWrites page bytes
-        → DrawsText spans.items bytes) }
+fn text_of(alloc: Global, spans: Vec<Arc<ViewSpan>>) -> SitePage
+    ensures { (bytes : List ℕ) → SiteWrites result bytes → DrawsText spans.items bytes }
 {
-    match TraceText::new(alloc, spans) {
-        Ok(text) => Ok(SitePage::Text(text)),
-        Err(_) => Err(AllocError),
-    }
+    SitePage::Text(TraceText::new(alloc, spans))
 }
 
 /// A trace in OTLP's JSON.
@@ -153,8 +145,8 @@ impl Pages<Arc<ViewSpan>, TraceDigest> for Site {
             → Draws form trace spans.items bytes) }
     {
         match form {
-            TraceForm::Page => page_of(self.alloc, trace, spans),
-            TraceForm::Text => text_of(self.alloc, spans),
+            TraceForm::Page => Ok(page_of(self.alloc, trace, spans)),
+            TraceForm::Text => Ok(text_of(self.alloc, spans)),
             TraceForm::Json => Ok(json_of(self.alloc, spans)),
         }
     }

@@ -5,7 +5,8 @@ use otlp_ids::OutOfMemory;
 use std::alloc::{Allocator, Global};
 use std::test::Fail;
 use test_support::FailingAllocator;
-use view_pages::{TracePage, TraceText};
+use trace_lines::TraceText;
+use view_pages::TracePage;
 
 /// A name that tries to leave its place and to turn the text around it.
 const HOSTILE: &str = "</b><script>alert(\"1\" & '2')</script>\u{202e}\0";
@@ -64,7 +65,7 @@ fn written_text<A: Allocator + Copy>(
     alloc: A,
     all: &[Made],
 ) -> Result<(String<A>, usize), OutOfMemory> {
-    let mut text = TraceText::new(alloc, owned(alloc, all)?)?;
+    let mut text = TraceText::new(alloc, owned(alloc, all)?);
     let mut bytes = Vec::new(alloc);
     for count in 1..1_000_000usize {
         if !text.next(&mut bytes)? {
@@ -76,7 +77,7 @@ fn written_text<A: Allocator + Copy>(
 
 /// The page of the trace of these spans.
 fn page<A: Allocator + Copy>(alloc: A, all: &[Made]) -> Result<String<A>, OutOfMemory> {
-    let page = TracePage::new(alloc, 0x30, owned(alloc, all)?)?;
+    let page = TracePage::new(alloc, 0x30, owned(alloc, all)?);
     let (text, _) = written(alloc, page)?;
     Ok(text)
 }
@@ -188,8 +189,7 @@ fn a_panel_has_what_was_received(rt: HostRuntime) -> Result<(), Fail> {
 
 #[test]
 fn the_text_of_a_trace_has_a_line_for_each_span(rt: HostRuntime) -> Result<(), Fail> {
-    let (text, count) = written_text(rt.alloc(), all().as_slice())?;
-    assert_equal(&rt, count, 1);
+    let (text, _) = written_text(rt.alloc(), all().as_slice())?;
     assert_equal(&rt, count_of(&text, "\n"), 7);
     assert_has(&rt, &text, "10.0ms  parent not received\n");
     Ok(())
@@ -202,7 +202,7 @@ fn a_large_trace_is_drawn(rt: HostRuntime) -> Result<(), Fail> {
     for id in 1..10001u32 {
         all.push(made(id, id / 2, "part", id, 20000))?;
     }
-    let page = TracePage::new(alloc, 0x30, owned(alloc, &all)?)?;
+    let page = TracePage::new(alloc, 0x30, owned(alloc, &all)?);
     let (text, count) = written(alloc, page)?;
     assert_equal(&rt, count_of(&text, "<li data-row='"), 10000);
     assert_equal(&rt, count_of(&text, "identifier is repeated"), 0);

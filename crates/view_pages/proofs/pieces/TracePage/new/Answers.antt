@@ -1,17 +1,27 @@
-use Rattle.std.proofs.Common.{arith, subst}
-use Rattle.view_pages.specs.Pieces.{IsPlan}
+use Rattle.std.proofs.Common.{ap, arith, length, subst, sym, ◌∙◌}
+use Rattle.trace_tree.specs.Order.{ArePlaces}
+use Rattle.view_pages.specs.Html.{html_bytes}
+use Rattle.view_pages.specs.Pages.{DrawsPage}
+use Rattle.view_pages.specs.Pieces.{left_html}
+use Rattle.view_pages.specs.Reading.{places_in}
+use Rattle.view_pages.specs.declared.pieces.Stage.TheVariants.{Head}
 use Rattle.view_pages.proofs.Planned.{draws, reads_back}
 use Rattle.view_pages.proofs.pieces.TracePage.new.Goals as goal
 
-pub returns-clause-page : goal.returns-clause-page
-returns-clause-page g c =
-    draws c.args.trace c.args.spans.items c.in_ok-plan.plan.0.items c.in_ok-plan.plan.1
-    (subst (λ l. IsPlan l c.in_ok-plan.plan.0.items c.in_ok-plan.plan.1) c.deref.ensures.value
-    c.in_ok-plan.ensures)
-
-pub returns-clause-read_back : goal.returns-clause-read_back
-returns-clause-read_back g c =
-    reads_back c.args.trace c.args.spans.items c.in_ok-plan.plan.0.items c.in_ok-plan.plan.1
-    (omega arith)
-    (subst (λ l. IsPlan l c.in_ok-plan.plan.0.items c.in_ok-plan.plan.1) c.deref.ensures.value
-    c.in_ok-plan.ensures)
+pub returns : goal.returns
+returns g c = record {
+  page = λ bytes h.
+      subst (DrawsPage c.args.trace c.args.spans.items)
+      (sym (h.bytes_are
+      ∙ ap (λ v. html_bytes (left_html c.args.trace v.items h.lines h.frame Head))
+      c.new-rows.ensures.spans))
+      (draws c.args.trace c.args.spans.items h.lines h.frame
+      (c.new-rows.ensures.plan h.lines h.frame h.may_have));
+  read_back = λ bytes h.
+      subst (λ b. ArePlaces (length c.args.spans.items) (places_in b))
+      (sym (h.bytes_are
+      ∙ ap (λ v. html_bytes (left_html c.args.trace v.items h.lines h.frame Head))
+      c.new-rows.ensures.spans))
+      (reads_back c.args.trace c.args.spans.items h.lines h.frame (omega arith)
+      (c.new-rows.ensures.plan h.lines h.frame h.may_have));
+}
