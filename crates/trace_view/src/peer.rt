@@ -202,7 +202,8 @@ impl<T: Read + Write, P: Pieces + Drop> Peer<T, P> {
     {
         let makes_piece = self.connection.wants_advance();
         self.connection.advance(service, room);
-        self.note(false, now_ms);
+        // While a piece is made, the client isn't waited for. One that takes nothing gets no more.
+        self.note(makes_piece, now_ms);
         let turn = self.go_on(now_ms);
         if makes_piece && turn.is_none() {
             return Some(Turn::Again);
