@@ -293,7 +293,7 @@ where
     }
     for attributes in [0usize, 5] {
         print_attributes(rt, alloc, output, attributes)?;
-        print_traced(&rt, alloc, output, attributes)?;
+        print_traced(rt, alloc, output, attributes)?;
     }
     print_calls(&rt, alloc, output)?;
     print_requests(rt, alloc, output)?;

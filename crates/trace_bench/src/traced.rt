@@ -51,47 +51,63 @@ fn end_bare<R: Clock>(
     Ok(())
 }
 
-/// How long a round takes in one of the ways, in nanoseconds a span.
-fn time_round<R>(
-    rt: &R,
+/// How long a round takes by bare calls, in nanoseconds a span.
+fn time_bare<R>(
+    rt: R,
     alloc: Global,
     tracer: &Tracer<'_, AlwaysOn>,
     attributes: usize,
-    is_bare: bool,
 ) -> Result<u64>
 where
-    R: RandomSource + Clock,
+    R: RandomSource + Clock + Copy,
 {
-    let mut rng: StdRng = make_rng(rt)?;
+    let mut rng: StdRng = make_rng(&rt)?;
     let mut pass = BodyPass::new(alloc, SPANS)?;
     let clock = SystemClock::new(rt);
-    let start = Instant::now(rt)?;
-    if is_bare {
-        end_bare(alloc, &clock, &mut rng, tracer, attributes, &mut pass)?;
-    } else {
-        let mut trace = ThreadTracer::new(tracer, alloc, &mut rng, &clock, &mut pass);
-        end_traced(&mut trace, attributes);
-    }
-    let nanos = nanos_since(rt, start)?;
+    let start = Instant::now(&rt)?;
+    end_bare(alloc, &clock, &mut rng, tracer, attributes, &mut pass)?;
+    let nanos = nanos_since(&rt, start)?;
+    Ok(nanos / SPANS as u64)
+}
+
+/// The same by the calls of a thread's tracer.
+fn time_traced<R>(
+    rt: R,
+    alloc: Global,
+    tracer: &Tracer<'_, AlwaysOn>,
+    attributes: usize,
+) -> Result<u64>
+where
+    R: RandomSource + Clock + Copy,
+{
+    let rng: StdRng = make_rng(&rt)?;
+    let mut pass = BodyPass::new(alloc, SPANS)?;
+    let clock = SystemClock::new(rt);
+    let start = Instant::now(&rt)?;
+    end_traced(
+        &mut ThreadTracer::new(tracer, alloc, rng, clock, &mut pass),
+        attributes,
+    );
+    let nanos = nanos_since(&rt, start)?;
     Ok(nanos / SPANS as u64)
 }
 
 /// Prints how long a span takes in each way, in the middle one of some rounds, which take turns.
 pub fn print_traced<R, W: Write>(
-    rt: &R,
+    rt: R,
     alloc: Global,
     output: &mut W,
     attributes: usize,
 ) -> Result<()>
 where
-    R: RandomSource + Clock,
+    R: RandomSource + Clock + Copy,
 {
     let provider = new_provider(alloc)?;
     let tracer = provider.tracer(Arc::new(alloc, Scope::named(alloc, "checkout")?)?);
     let (mut bare, mut traced) = (Vec::new(alloc), Vec::new(alloc));
     for _round in 0..ROUNDS {
-        bare.push(time_round(rt, alloc, &tracer, attributes, true)?)?;
-        traced.push(time_round(rt, alloc, &tracer, attributes, false)?)?;
+        bare.push(time_bare(rt, alloc, &tracer, attributes)?)?;
+        traced.push(time_traced(rt, alloc, &tracer, attributes)?)?;
     }
     write_traced(output, attributes, median(bare)?, median(traced)?)?;
     Ok(())
