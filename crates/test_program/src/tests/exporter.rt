@@ -481,7 +481,8 @@ fn an_exporter_shows_its_target(rt: HostRuntime) {
     let alloc = rt.alloc();
     let exporter = exporter(&rt, alloc, alloc, Vec::new(alloc));
     let text = concat!(
-        "LinkExporter { target: Target { host: \"127.0.0.1\", port: 4318, path: \"/v1/traces\" }, ",
+        "LinkExporter { target: Target { host: \"127.0.0.1\", port: 4318, path: \"/v1/traces\", ",
+        "headers: HeaderFields(0) }, ",
         "limits: HeadLimits { head: 16384, fields: 64, body: 65536 }, ",
         "reads_after_a_stop: false, .. }",
     );
