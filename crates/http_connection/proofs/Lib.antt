@@ -1,1 +1,4 @@
+mod Fields
+mod Known
 pub mod RunLemmas
+mod Safety

@@ -21,25 +21,26 @@ use Rattle.http_connection.specs.Turns.{Turn, judged, Admitted, Rejected, Answer
 
 module _ {S P : Type 0} (answers : S → Turn P → S → Type 0) (writes : P → List ℕ → Type 0)
     (most : ℕ) where
-  -- where it is over nothing more is done
-  nothing_over : (s : S) (act : Act P) (t : S) (after : Place P)
+  -- Where a connection is over, nothing more is done.
+  pub nothing_over : (s : S) (act : Act P) (t : S) (after : Place P)
       → Does answers writes most s Over act t after → ⊥
-  nothing_over s (Took (Admitted head) text) t after x = let e = x.1.0 in cc
-  nothing_over s (Took (Rejected head r) text) t after x = let e = x.1.0 in cc
-  nothing_over s (Took (Answered request r pieces) text) t after x = let e = x.1.0 in cc
-  nothing_over s (Took (Refused why r) text) t after x = x.1.0
-  nothing_over s (Kept piece) t after x = let e = x.1.2 in cc
-  nothing_over s (Wrote old piece more new text) t after x = let e = x.0 in cc
+  nothing_over s (Took (Admitted head) text) t after (answered, (awaits, lets_in, says)) = cc
+  nothing_over s (Took (Rejected head r) text) t after (answered, (awaits, ends, says)) = cc
+  nothing_over s (Took (Answered request r pieces) text) t after
+      (answered, (takes, ends, bound, says)) = cc
+  nothing_over s (Took (Refused why r) text) t after (answered, (is_open, ends, says)) = is_open
+  nothing_over s (Kept piece) t after (same, (head, body, takes, keeps)) = cc
+  nothing_over s (Wrote old piece more new text) t after (writes_old, same, ends, is, says) = cc
 
-  -- a chain from there is one from anywhere
+  -- A chain from where a connection is over is one from anywhere, since nothing is done in it.
   chain_over : (s : S) (place : Place P) (acts : List (Act P)) (t : S) (after : Place P)
       → Chain answers writes most s Over acts t after
       → Chain answers writes most s place acts t after
   chain_over s place [] t after x = (x.0, elim x.1 [ inl e ↦ inr e | inr e ↦ inr e ])
   chain_over s place (act ∷ acts) t after x = absurd (nothing_over s act x.0 x.1 x.2)
 
-  -- one chain after another
-  chain_append : (s : S) (place : Place P) (first second : List (Act P)) (m : S) (p : Place P)
+  -- Two chains, one after the other, are one chain.
+  pub chain_append : (s : S) (place : Place P) (first second : List (Act P)) (m : S) (p : Place P)
       (t : S) (after : Place P) → Chain answers writes most s place first m p
       → Chain answers writes most m p second t after
       → Chain answers writes most s place (first ++ second) t after
@@ -197,11 +198,12 @@ module _ {S P : Type 0} (answers : S → Turn P → S → Type 0) (writes : P �
       → Chain {S = Unit {0}} (λ a turn b. ⊥) writes most tt place acts tt after
       → Chain answers writes most s place acts s after
   chain_beside s place [] after x = (refl, x.1)
-  chain_beside s place (Took turn text ∷ acts) after x = absurd (x.2.0)
-  chain_beside s place (Kept piece ∷ acts) after x =
-      (s, x.1, (refl, x.2.1), chain_beside s x.1 acts after x.3)
-  chain_beside s place (Wrote old piece more new text ∷ acts) after x =
-      (s, x.1, (x.2.0, refl, x.2.2, x.2.3, x.2.4), chain_beside s x.1 acts after x.3)
+  chain_beside s place (Took turn text ∷ acts) after (m, p, (never, puts), rest) = absurd never
+  chain_beside s place (Kept piece ∷ acts) after (m, p, (same, keeps), rest) =
+      (s, p, (refl, keeps), chain_beside s p acts after rest)
+  chain_beside s place (Wrote old piece more new text ∷ acts) after
+      (m, p, (writes_old, same, ends, is, says), rest) =
+      (s, p, (writes_old, refl, ends, is, says), chain_beside s p acts after rest)
 
   -- A run in which no service takes a turn is a run of every service, whose state stays.
   pub runs_beside : (s : S) {place : Place P} {before : List ℕ} {after : Place P} {now : List ℕ}

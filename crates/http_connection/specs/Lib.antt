@@ -1,6 +1,11 @@
 pub mod Connections
+pub mod Denials
+pub mod Formats
+pub mod Hosts
 pub mod Limits
 pub mod Outputs
+pub mod Requests
 pub mod Runs
+pub mod Tallies
 pub mod Texts
 pub mod Turns

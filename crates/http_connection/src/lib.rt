@@ -3,7 +3,8 @@
 //! is answered so that the answer arrives.
 //!
 //! A [`Connection`] reads what a [`Service`] has to answer from bytes that the caller reads, and
-//! keeps the bytes that the caller is to write.
+//! keeps the bytes that the caller is to write. [`reply`] has what the service of `trace-view` says
+//! where it refuses a request, and in what formats it answers.
 #![tactic(auto)]
 
 mod connection;
@@ -11,6 +12,7 @@ mod encode;
 mod input;
 mod limits;
 mod output;
+pub mod reply;
 mod service;
 mod steps;
 

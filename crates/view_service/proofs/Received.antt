@@ -3,11 +3,11 @@ use Rattle.std.proofs.Common.{◌≡◌, ℕ, List, Some, None, refl, subst}
 use Rattle.http.specs.Request.{head_of}
 use Rattle.http.specs.declared.request.Request.{Request}
 use Rattle.http_server.specs.declared.response.Response.{Response}
-use Rattle.view_reply.specs.Denials.{IsDenial, IsSuccess}
-use Rattle.view_reply.specs.Requests.{denial_format}
-use Rattle.view_reply.specs.declared.denial.Denial.{Denial}
-use Rattle.view_reply.specs.declared.denial.Denial.TheVariants as denials
-use Rattle.view_reply.specs.declared.format.Format.{Format}
+use Rattle.http_connection.specs.Denials.{IsDenial, IsSuccess}
+use Rattle.http_connection.specs.Requests.{denial_format}
+use Rattle.http_connection.specs.declared.reply.denial.Denial.{Denial}
+use Rattle.http_connection.specs.declared.reply.denial.Denial.TheVariants as denials
+use Rattle.http_connection.specs.declared.reply.format.Format.{Format}
 use Rattle.view_service.specs.Receives.{AnswersExport, Giving, HasParts, IsUnread, Keeping, Parts}
 use Rattle.view_service.specs.Receives.{Receives, denial_of, post_of, size_of_body}
 use Rattle.view_service.specs.declared.receive.Unread.TheVariants as reasons

@@ -21,11 +21,11 @@ use Rattle.otlp_serve.specs.Posts.{HttpPost}
 use Rattle.otlp_serve.specs.declared.reply.PostReply.{PostReply}
 use Rattle.otlp_serve.specs.declared.status.ReplyStatus.{ReplyStatus}
 use Rattle.otlp_serve.specs.declared.status.ReplyStatus.TheVariants as statuses
-use Rattle.view_reply.specs.Denials.{IsDenial, IsSuccess}
-use Rattle.view_reply.specs.Requests.{denial_format}
-use Rattle.view_reply.specs.declared.denial.Denial.{Denial}
-use Rattle.view_reply.specs.declared.denial.Denial.TheVariants as denials
-use Rattle.view_reply.specs.declared.format.Format.{Format}
+use Rattle.http_connection.specs.Denials.{IsDenial, IsSuccess}
+use Rattle.http_connection.specs.Requests.{denial_format}
+use Rattle.http_connection.specs.declared.reply.denial.Denial.{Denial}
+use Rattle.http_connection.specs.declared.reply.denial.Denial.TheVariants as denials
+use Rattle.http_connection.specs.declared.reply.format.Format.{Format}
 use Rattle.view_service.specs.declared.receive.Unread.{Unread}
 use Rattle.view_service.specs.declared.receive.Unread.TheVariants as reasons
 use Rattle.trace_store.specs.Memory.{request_size}

@@ -9,12 +9,12 @@ use Rattle.http_connection.specs.declared.limits.Refusal.{Refusal}
 use Rattle.http_connection.specs.declared.limits.Refusal.TheVariants as refusals
 use Rattle.http_server.specs.declared.response.Response.{Response}
 use Rattle.http_uri.specs.Uri.{uri_path}
-use Rattle.view_reply.specs.Denials.{IsDenial}
-use Rattle.view_reply.specs.Hosts.{allows_head}
-use Rattle.view_reply.specs.Requests.{denial_format, is_export_path}
-use Rattle.view_reply.specs.Tallies.{CountsAnswer, Tally}
-use Rattle.view_reply.specs.declared.denial.Denial.{Denial}
-use Rattle.view_reply.specs.declared.denial.Denial.TheVariants as denials
+use Rattle.http_connection.specs.Denials.{IsDenial}
+use Rattle.http_connection.specs.Hosts.{allows_head}
+use Rattle.http_connection.specs.Requests.{denial_format, is_export_path}
+use Rattle.http_connection.specs.Tallies.{CountsAnswer, Tally}
+use Rattle.http_connection.specs.declared.reply.denial.Denial.{Denial}
+use Rattle.http_connection.specs.declared.reply.denial.Denial.TheVariants as denials
 use Rattle.view_service.specs.Receives.{AnswersExport, Giving, Keeping}
 use Rattle.view_service.specs.Shows.{AnswersPage, Drawing, Lending, Writing}
 use Rattle.view_service.specs.declared.service.ViewService.{ViewService}

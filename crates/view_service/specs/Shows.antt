@@ -6,13 +6,13 @@ use Rattle.http.specs.declared.request.Parts.{Parts as Head}
 use Rattle.http_server.specs.Response.{IsResponse}
 use Rattle.http_server.specs.declared.response.Response.{Response}
 use Rattle.http_uri.specs.Uri.{uri_path}
-use Rattle.view_reply.specs.Denials.{IsDenial}
-use Rattle.view_reply.specs.Formats.{format_fields}
-use Rattle.view_reply.specs.Requests.{denial_format}
-use Rattle.view_reply.specs.declared.denial.Denial.{Denial}
-use Rattle.view_reply.specs.declared.denial.Denial.TheVariants as denials
-use Rattle.view_reply.specs.declared.format.Format.{Format}
-use Rattle.view_reply.specs.declared.format.Format.TheVariants as formats
+use Rattle.http_connection.specs.Denials.{IsDenial}
+use Rattle.http_connection.specs.Formats.{format_fields}
+use Rattle.http_connection.specs.Requests.{denial_format}
+use Rattle.http_connection.specs.declared.reply.denial.Denial.{Denial}
+use Rattle.http_connection.specs.declared.reply.denial.Denial.TheVariants as denials
+use Rattle.http_connection.specs.declared.reply.format.Format.{Format}
+use Rattle.http_connection.specs.declared.reply.format.Format.TheVariants as formats
 use Rattle.view_service.specs.Routes.{Names}
 use Rattle.view_service.specs.declared.pages.TraceForm.{TraceForm}
 use Rattle.view_service.specs.declared.pages.TraceForm.TheVariants as forms

@@ -23,6 +23,7 @@ mod site_filter;
 
 pub use account_book::{Blank, Naming};
 pub use filter::TraceFilter;
+pub use http_connection::reply::{Denial, Format, Hosts, Tallies};
 pub use keeper::{Counts, Listed, TraceKeeper};
 pub use page::SitePage;
 pub use pages::{Asked, ListForm, Pages, TraceForm};
@@ -32,4 +33,3 @@ pub use shared::{KeptSpans, SharedKeeper, SpansKept, share};
 pub use show::Shown;
 pub use site::Site;
 pub use site_filter::SiteFilter;
-pub use view_reply::{Denial, Format, Hosts, Tallies};

@@ -5,8 +5,8 @@ ghost use Rattle.std.specs.Prelude.{◌≡◌, ℕ, IfOk, List, ⊤};
 use crate::filter::TraceFilter;
 use crate::keeper::{Counts, Listed};
 use http_connection::Pieces;
+use http_connection::reply::Tallies;
 use std::alloc::AllocError;
-use view_reply::Tallies;
 
 /// How a list of traces is shown.
 #[derive(Clone, Copy, Debug, PartialEq, Eq)]

@@ -3,20 +3,20 @@
 ghost use Rattle.std.specs.Prelude.{◌≡◌, ◌<◌, true, false, All, IfErr, IfOk, OnErr, OnOk, length};
 ghost use Rattle.http_server.specs.Response.{IsBlank};
 ghost use Rattle.otlp_serve.specs.Answers.{refusal_of};
-ghost use Rattle.view_reply.specs.Denials.{IsDenial};
+ghost use Rattle.http_connection.specs.Denials.{IsDenial};
 ghost use Rattle.view_service.specs.Receives.{AnswersExport, HasParts, IsUnread, denial_by};
 ghost use Rattle.view_service.specs.Receives.{denial_of, post_of, size_of_body, unread_by};
 
 use crate::keeper::TraceKeeper;
 use bytes::Bytes;
 use http::Request;
+use http_connection::reply::{Denial, Format, denial_format, fill_denial, fill_taken};
 use http_server::Response;
 use otlp_read::{ReadFault, read_request};
 use otlp_serve::{PostReply, ReplyStatus};
 use std::alloc::{AllocError, Global};
 use std::sync::Arc;
 use trace_store::{Part, TraceDigest, ViewSpan, request_size, take_apart};
-use view_reply::{Denial, Format, denial_format, fill_denial, fill_taken};
 
 /// The spans of a request, by their traces.
 type Parts = Vec<Part<Arc<ViewSpan>, Global>>;

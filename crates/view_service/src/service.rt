@@ -5,8 +5,8 @@ ghost use Rattle.std.specs.Prelude.{codes, min, replicate, option_copied};
 ghost use Rattle.http.specs.Request.{head_of};
 ghost use Rattle.http_server.specs.Response.{IsBlank};
 ghost use Rattle.http_uri.specs.Uri.{uri_path};
-ghost use Rattle.view_reply.specs.Denials.{IsDenial};
-ghost use Rattle.view_reply.specs.Requests.{denial_format, head_in};
+ghost use Rattle.http_connection.specs.Denials.{IsDenial};
+ghost use Rattle.http_connection.specs.Requests.{denial_format, head_in};
 ghost use Rattle.view_service.specs.Serves as spec;
 ghost use Rattle.view_service.specs.Serves.{Answers, HasAnswered, hosts_of, keeper_of, pages_of};
 ghost use Rattle.view_service.specs.Serves.{tally_of};
@@ -17,12 +17,14 @@ use crate::receive::receive;
 use crate::show::Viewer;
 use bytes::Bytes;
 use http::Request;
+use http_connection::reply::{
+    Denial, Hosts, Tallies, denial_format, fill_denial, is_export_path, path_of,
+};
 use http_connection::{Refusal, Service};
 use http_server::Response;
 use std::alloc::{AllocError, Global};
 use std::sync::Arc;
 use trace_store::{TraceDigest, ViewSpan};
-use view_reply::{Denial, Hosts, Tallies, denial_format, fill_denial, is_export_path, path_of};
 
 /// Receives spans by `POST /v1/traces`, and shows by `GET` what its keeper has.
 ///

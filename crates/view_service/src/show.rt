@@ -14,15 +14,15 @@ use crate::pages::{Asked, ListForm, Pages, TraceForm};
 use crate::route::{Route, route_of};
 use bytes::Bytes;
 use http::{Request, StatusCode};
+use http_connection::reply::{
+    Denial, Format, Tallies, add_format, asked_host, denial_format, fill_denial, path_of,
+};
 use http_server::Response;
 use otlp_ids::TraceId;
 use std::alloc::{AllocError, Global};
 use std::str;
 use std::sync::Arc;
 use trace_store::{TraceDigest, ViewSpan, trace_key};
-use view_reply::{
-    Denial, Format, Tallies, add_format, asked_host, denial_format, fill_denial, path_of,
-};
 
 /// The list shows this many traces at most.
 const LISTED: usize = 1_000;

@@ -1,0 +1,48 @@
+-- What the head of a request says of its answer. (OTLP Specification, OTLP/HTTP Request and
+-- OTLP/HTTP Response; which requests are answered as exports are: profile)
+use Rattle.std.specs.Prelude.{ℕ, Bool, false, ◌||◌, bytes_eq, if◌then◌else◌, List, [], ◌∷◌}
+use Rattle.std.specs.Prelude.{codes, take, Option, Some, None}
+use Rattle.http.specs.Request.{head_of}
+use Rattle.http.specs.declared.request.Parts.{Parts}
+use Rattle.http.specs.declared.request.Request.{Request as HttpRequest}
+use Rattle.http_header.specs.FieldValue.{FieldValue}
+use Rattle.http_header.specs.HeaderMap.{get_all}
+use Rattle.http_uri.specs.Uri.{uri_path}
+use Rattle.http_connection.specs.Hosts.{is_same_word}
+use Rattle.http_connection.specs.declared.reply.format.Format.{Format}
+use Rattle.http_connection.specs.declared.reply.format.Format.TheVariants as formats
+
+-- the paths to which OTLP's exporters post
+abbrev pub is_export_path : List ℕ → Bool
+is_export_path path =
+    bytes_eq path (codes "/v1/traces")
+    || (bytes_eq path (codes "/v1/metrics") || bytes_eq path (codes "/v1/logs"))
+
+-- an export: a post, or a request for a path of exports
+abbrev pub is_export : Parts → Bool
+is_export head = is_export_path (uri_path head.uri) || bytes_eq head.method (codes "POST")
+
+-- a type begins as that of JSON does, in any case of letters
+abbrev pub is_json_type : List ℕ → Bool
+is_json_type kind = is_same_word (take 16 kind) (codes "application/json")
+
+-- the first Content-Type is so (profile)
+abbrev pub is_json : List FieldValue → Bool
+is_json [] = false
+is_json (value ∷ values) = is_json_type value.bytes
+
+-- the head of a request, if it is known
+abbrev pub head_in : Option (HttpRequest (List ℕ)) → Option Parts
+head_in (Some request) = Some (head_of request)
+head_in None = None
+
+-- In what a request is refused: an export as its own type is, and other requests by a text. A
+-- request whose head isn't known is taken for an export.
+abbrev pub denial_format : Option Parts → Format
+denial_format None = formats.Protobuf
+denial_format (Some head) =
+    if is_export head
+    then (if is_json (get_all head.headers (codes "content-type"))
+    then formats.Json
+    else formats.Protobuf)
+    else formats.Text

@@ -1,0 +1,17 @@
+//! What requests to `trace-view` are answered that it doesn't take, under which hosts it may be
+//! asked, and how many answers it gave.
+//!
+//! [`Hosts`] are the hosts of a service. [`Denial`] says why a request is refused, in which
+//! [`Format`] a response says so. [`Tallies`] count the answers by their status.
+
+mod denial;
+mod format;
+mod hosts;
+mod request;
+mod tally;
+
+pub use denial::{Denial, fill_denial, fill_taken};
+pub use format::{Format, add_format};
+pub use hosts::{Hosts, asked_host};
+pub use request::{denial_format, is_export, is_export_path, path_of};
+pub use tally::Tallies;

@@ -1,3 +1,0 @@
-mod Fields
-mod Known
-mod Safety
