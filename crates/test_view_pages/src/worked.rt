@@ -6,12 +6,13 @@
 
 ghost use Rattle.std.specs.Prelude.{◌≡◌, ◌-◌, ◌^◌, [], ◌∷◌, true, false, codes};
 ghost use Rattle.view_pages.specs.Dates.{moment_html};
-ghost use Rattle.view_pages.specs.Html.{html_bytes};
+ghost use Rattle.view_pages.specs.Html.{html_bytes, markup_if, text_after};
 ghost use Rattle.view_pages.specs.Reading.{number_in, places_in};
-ghost use Rattle.view_pages.specs.Rows.{bad_html, depth_html, id_html, level_of, remark_html};
+ghost use Rattle.view_pages.specs.Rows.{depth_html, id_html, level_of, remark_html};
 ghost use Rattle.trace_lines.specs.Services.{colour_of, with_name};
-ghost use Rattle.trace_lines.specs.Spans.{service_in};
-ghost use Rattle.view_pages.specs.Times.{duration, share_of};
+ghost use Rattle.trace_lines.specs.Times.{share_of};
+ghost use Rattle.trace_store.specs.Facts.{service_in};
+ghost use Rattle.view_pages.specs.Times.{duration};
 
 /// The rows that are read of a page.
 pub fn readings()
@@ -60,7 +61,8 @@ pub fn rows()
     ensures depth { html_bytes (depth_html 3) ≡ codes "' aria-level='4' style='--d:3" }
     ensures remark { html_bytes (remark_html true (codes "cycle")) ≡ codes " <em>cycle</em>" }
     ensures no_remark { html_bytes (remark_html false (codes "cycle")) ≡ [] }
-    ensures bad { html_bytes (bad_html true) ≡ codes " bad" }
+    ensures bad { html_bytes (markup_if true (codes " bad")) ≡ codes " bad" }
+    ensures no_query { html_bytes (text_after (codes "?") []) ≡ [] }
     ensures again { html_bytes (id_html false (1 ∷ 255 ∷ [])) ≡ [] }
 {}
 

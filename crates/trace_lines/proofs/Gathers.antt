@@ -19,7 +19,7 @@ use Rattle.trace_store.specs.declared.span.ViewSpan.{ViewSpan}
 use Rattle.trace_lines.specs.Keys.{value_at}
 use Rattle.trace_lines.specs.Lines.{colour_for, line_for, mark_for}
 use Rattle.trace_lines.specs.Plans.{AreGathered, kin_by, tree_of, tree_span, values}
-use Rattle.trace_lines.specs.Spans.{frame_of, frame_with, no_time}
+use Rattle.trace_lines.specs.Times.{frame_of, frame_with, no_time}
 use Rattle.trace_lines.specs.declared.gathered.Gathered.{Gathered}
 use Rattle.trace_lines.specs.declared.line.Line.{Line}
 use Rattle.trace_lines.specs.declared.repeat.Mark.{Mark}

@@ -1,7 +1,9 @@
 pub mod Coming
+pub mod Dates
 pub mod Gathers
 pub mod Keyed
 pub mod Names
+pub mod Precision
+pub mod Queries
 pub mod Repeats
-pub mod Services
 pub mod Texts

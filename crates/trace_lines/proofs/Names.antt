@@ -15,7 +15,7 @@ use Rattle.trace_store.specs.declared.span.ViewSpan.{ViewSpan}
 use Rattle.trace_lines.specs.Keys.{value_at}
 use Rattle.trace_lines.specs.Services.{AreServices, is_named, more_services, place_of_name}
 use Rattle.trace_lines.specs.Services.{services_of, with_name}
-use Rattle.trace_lines.specs.Spans.{service_of}
+use Rattle.trace_store.specs.Facts.{service_of}
 
 none_of : (o : Option ℕ) → is_some o ≡ false → o ≡ None
 none_of None h = refl

@@ -1,5 +1,5 @@
 -- The lines of a text, and those of the tree of its spans.
-use Rattle.std.proofs.Common.{◌≡◌, refl, sym, ap, subst, ◌∙◌, ℕ, ◌+◌, ◌<◌, ◌≤◌, Bool, true, Option}
+use Rattle.std.proofs.Common.{◌≡◌, refl, sym, ap, subst, ◌∙◌, ℕ, ◌+◌, ◌<◌, ◌≤◌, true, Option}
 use Rattle.std.proofs.Common.{Some, None, List, [], ◌∷◌, ◌++◌, length, map, drop, get_or}
 use Rattle.std.proofs.Common.{append_assoc, Result, OnOk}
 use Rattle.std.specs.Prelude.{fold, option_map, slice_get}
@@ -18,26 +18,23 @@ use Rattle.trace_tree.specs.declared.span.TreeSpan.{TreeSpan}
 use Rattle.trace_store.specs.declared.span.ViewSpan.{ViewSpan}
 use Rattle.trace_lines.specs.Comes.{is_planned}
 use Rattle.trace_lines.specs.Lines.{line_for}
-use Rattle.trace_lines.specs.Plans.{IsPlan, tree_of, tree_span, tree_view, values}
-use Rattle.trace_lines.specs.Spans.{frame_of, frame_with, no_time}
+use Rattle.trace_lines.specs.Plans.{IsPlan, TreeView, lent_bytes, tree_of, tree_span, tree_view}
+use Rattle.trace_lines.specs.Plans.{values}
+use Rattle.trace_lines.specs.Times.{frame_of, frame_with, no_time}
 use Rattle.trace_lines.specs.Texts.{DrawsText, StillWrites, lines_text, row_text, span_text}
 use Rattle.trace_lines.specs.declared.line.Line.{Line}
 use Rattle.trace_lines.specs.declared.text.TraceText.{TraceText}
 use Rattle.trace_lines.proofs.Coming.{has_planned, planned_has}
 
--- what a tree has of a span
-abbrev View : Type 0
-View = List ℕ × (List ℕ × (List ℕ × (ℕ × (ℕ × Bool))))
-
 -- a span with this in it
-abbrev of_view : View → TreeSpan
+abbrev of_view : TreeView → TreeSpan
 of_view v = record {
-  span_id = record { ref_ptr = (0, 0); now = v.0 };
-  parent_span_id = record { ref_ptr = (0, 0); now = v.1.0 };
-  name = record { ref_ptr = (0, 0); now = v.1.1.0 };
-  start_time_unix_nano = v.1.1.1.0;
-  end_time_unix_nano = v.1.1.1.1.0;
-  is_error = v.1.1.1.1.1;
+  span_id = lent_bytes v.span_id;
+  parent_span_id = lent_bytes v.parent_span_id;
+  name = lent_bytes v.name;
+  start_time_unix_nano = v.start_time_unix_nano;
+  end_time_unix_nano = v.end_time_unix_nano;
+  is_error = v.is_error;
 }
 
 -- the line of a span is by what the tree has of it

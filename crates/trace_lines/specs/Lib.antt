@@ -1,9 +1,12 @@
 pub mod Comes
+pub mod Dates
 pub mod Keys
 pub mod Lines
+pub mod Lists
 pub mod Parts
 pub mod Plans
+pub mod Queries
 pub mod Repeats
 pub mod Services
-pub mod Spans
 pub mod Texts
+pub mod Times

@@ -1,10 +1,10 @@
 -- What is known of each row before any is written.
 use Rattle.std.specs.Prelude.{ℕ, false, Option, Some, None, List, slice_get}
 use Rattle.trace_tree.specs.declared.span.Row.{Row}
+use Rattle.trace_store.specs.Facts.{service_of}
 use Rattle.trace_store.specs.declared.span.ViewSpan.{ViewSpan}
 use Rattle.trace_lines.specs.Repeats.{mark_of}
 use Rattle.trace_lines.specs.Services.{colour_of, services_of}
-use Rattle.trace_lines.specs.Spans.{service_of}
 use Rattle.trace_lines.specs.declared.line.Line.{Line}
 use Rattle.trace_lines.specs.declared.repeat.Mark.{Mark}
 

@@ -1,6 +1,6 @@
 -- What is known of the spans of a trace before its rows are written.
-use Rattle.std.specs.Prelude.{◌≡◌, ℕ, ◌+◌, ◌==◌, Bool, Option, None, if◌then◌else◌, option_map}
-use Rattle.std.specs.Prelude.{List, length, map, string_bytes}
+use Rattle.std.specs.Prelude.{◌≡◌, ℕ, ◌+◌, Bool, Option, None, if◌then◌else◌, option_map}
+use Rattle.std.specs.Prelude.{List, map, string_bytes}
 use Rattle.std.specs.Arc.{arc_value}
 use Rattle.std.specs.Borrow.{Bor}
 use Rattle.std.specs.BTreeMap.{btree_map_len}
@@ -10,12 +10,13 @@ use Rattle.trace_tree.specs.declared.draw.Frame.{Frame}
 use Rattle.trace_tree.specs.declared.span.Row.{Row}
 use Rattle.trace_tree.specs.declared.span.TreeSpan.{TreeSpan}
 use Rattle.trace_tree.specs.declared.steps.Kin.{Kin}
+use Rattle.trace_store.specs.Facts.{is_error, names_none}
 use Rattle.trace_store.specs.declared.span.ViewSpan.{ViewSpan}
 use Rattle.trace_lines.specs.Keys.{value_at}
 use Rattle.trace_lines.specs.Lines.{line_for}
 use Rattle.trace_lines.specs.Repeats.{AreUses}
 use Rattle.trace_lines.specs.Services.{AreServices, services_of}
-use Rattle.trace_lines.specs.Spans.{frame_of, is_error}
+use Rattle.trace_lines.specs.Times.{frame_of}
 use Rattle.trace_lines.specs.declared.gathered.Gathered.{Gathered}
 use Rattle.trace_lines.specs.declared.line.Line.{Line}
 use Rattle.trace_lines.specs.declared.repeat.Use.{Use}
@@ -42,18 +43,25 @@ tree_span s = record {
 abbrev pub tree_of : {A : Type 0} → List (ViewSpan A) → List TreeSpan
 tree_of spans = map tree_span spans
 
--- what the tree has of a span: its identifiers, its name, when it ran, and whether it is an error
-abbrev pub tree_view : TreeSpan → List ℕ × (List ℕ × (List ℕ × (ℕ × (ℕ × Bool))))
-tree_view s = (
-  s.span_id.now,
-  (
-    s.parent_span_id.now,
-    (
-      s.name.now,
-      (s.start_time_unix_nano, (s.end_time_unix_nano, s.is_error)),
-    ),
-  ),
-)
+-- What the tree has of a span: its identifiers, its name, when it ran, and whether it is an error.
+pub record TreeView : Type 0 where
+  pub span_id : List ℕ
+  pub parent_span_id : List ℕ
+  pub name : List ℕ
+  pub start_time_unix_nano : ℕ
+  pub end_time_unix_nano : ℕ
+  pub is_error : Bool
+
+-- that of a span, wherever its bytes are
+abbrev pub tree_view : TreeSpan → TreeView
+tree_view s = record {
+  span_id = s.span_id.now;
+  parent_span_id = s.parent_span_id.now;
+  name = s.name.now;
+  start_time_unix_nano = s.start_time_unix_nano;
+  end_time_unix_nano = s.end_time_unix_nano;
+  is_error = s.is_error;
+}
 
 -- What is known of each row, and the time that the trace takes.
 pub record IsPlan {A : Type 0} (spans : List (Arc (ViewSpan A) A)) (lines : List Line)
@@ -74,14 +82,13 @@ pub record AreGathered {A : Type 0} (spans : List (ViewSpan A)) (known : Gathere
 
 -- what the place of a span goes by, by what is known of the others
 abbrev pub parent_by : {A : Type 0} → Gathered A → List ℕ → Bool → Option ℕ
-parent_by known id names_none =
-    if names_none then None else option_map (λ (u : Use). u.first) (value_at known.uses id)
+parent_by known id is_root =
+    if is_root then None else option_map (λ (u : Use). u.first) (value_at known.uses id)
 
 abbrev pub kin_by : {A : Type 0} → Gathered A → ViewSpan A → Kin
 kin_by known s = record {
-  parent = parent_by known s.span.parent_span_id.items
-      (length s.span.parent_span_id.items == 0);
-  names_none = length s.span.parent_span_id.items == 0;
+  parent = parent_by known s.span.parent_span_id.items (names_none s.span);
+  names_none = names_none s.span;
   start_time_unix_nano = s.span.start_time_unix_nano;
 }
 

@@ -4,9 +4,9 @@ use Rattle.std.specs.Prelude.{[]}
 use Rattle.std.specs.Prelude.{◌∷◌, ◌++◌, length, fold, position, Vec}
 use Rattle.std.specs.BTreeMap.{BTreeMap, btree_map_len}
 use Rattle.std.specs.Str.{bytes_eq}
+use Rattle.trace_store.specs.Facts.{service_of}
 use Rattle.trace_store.specs.declared.span.ViewSpan.{ViewSpan}
 use Rattle.trace_lines.specs.Keys.{value_at}
-use Rattle.trace_lines.specs.Spans.{service_of}
 
 -- whether a service has this name
 abbrev pub is_named : List ℕ → List ℕ → Bool

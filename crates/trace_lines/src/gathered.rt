@@ -4,14 +4,14 @@ ghost use Rattle.std.specs.Prelude.{◌≡◌, ◌∷◌, ◌++◌, ◌<◌, [],
 ghost use Rattle.trace_lines.specs.Plans.{AreGathered, key_count, kin_by, values};
 ghost use Rattle.trace_store.specs.declared.span.ViewSpan.{ViewSpan as Kept};
 
-use crate::facts::{frame_with, no_time, service_of};
 use crate::repeat::{Use, add_use, first_of};
 use crate::service::add_name;
+use crate::times::{frame_with, no_time};
 use otlp_ids::OutOfMemory;
 use std::alloc::Allocator;
 use std::collections::BTreeMap;
 use std::sync::Arc;
-use trace_store::ViewSpan;
+use trace_store::{ViewSpan, names_none, service_of};
 use trace_tree::{Frame, Kin};
 
 /// How many spans a step takes.
@@ -86,15 +86,15 @@ impl<A: Allocator + Copy> Gathered<A> {
         ensures { result ≡ kin_by self.now span.now }
     {
         let span = &span.span;
-        let names_none = span.parent_span_id.is_empty();
-        let parent = if names_none {
+        let is_root = names_none(span);
+        let parent = if is_root {
             None
         } else {
             first_of(&self.uses, &span.parent_span_id)
         };
         Kin {
             parent,
-            names_none,
+            names_none: is_root,
             start_time_unix_nano: span.start_time_unix_nano,
         }
     }

@@ -4,13 +4,12 @@ ghost use Rattle.std.specs.Prelude.{◌≡◌, IfOk, take, map};
 ghost use Rattle.trace_lines.specs.Lines.{line_for};
 ghost use Rattle.trace_lines.specs.Plans.{AreGathered, values};
 
-use crate::facts::service_of;
 use crate::gathered::Gathered;
 use crate::repeat::{Mark, mark_of};
 use crate::service::colour_by;
 use std::alloc::Allocator;
 use std::sync::Arc;
-use trace_store::ViewSpan;
+use trace_store::{ViewSpan, service_of};
 use trace_tree::Row;
 
 /// A row, with what its span is among the others of its trace.

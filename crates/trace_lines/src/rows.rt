@@ -7,9 +7,9 @@ ghost use Rattle.trace_lines.specs.Parts.{IsBelow};
 ghost use Rattle.trace_lines.specs.Plans.{IsPlan};
 ghost use Rattle.trace_lines.specs.declared.line.Line.{Line as Lined};
 
-use crate::facts::no_time;
 use crate::line::Line;
 use crate::planning::{Planning, Step};
+use crate::times::no_time;
 use otlp_ids::OutOfMemory;
 use std::alloc::{Allocator, Global};
 use std::sync::Arc;

@@ -7,13 +7,12 @@ ghost use Rattle.trace_lines.specs.Parts.{IsBelow};
 ghost use Rattle.trace_lines.specs.Plans.{tree_span, tree_view};
 ghost use Rattle.trace_lines.specs.Texts.{DrawsText, StillWrites, lines_text, row_text};
 
-use crate::facts::is_error;
 use crate::line::Line;
 use crate::rows::TraceLines;
 use otlp_ids::OutOfMemory;
 use std::alloc::{Allocator, Global};
 use std::sync::Arc;
-use trace_store::ViewSpan;
+use trace_store::{ViewSpan, is_error};
 use trace_tree::{Frame, TreeSpan, write_line};
 
 /// A piece ends with the row with which it has so many bytes.

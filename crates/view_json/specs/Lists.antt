@@ -5,8 +5,8 @@ use Rattle.std.specs.Fmt.{take_chars}
 use Rattle.std.specs.Int.{w128, to_be_bytes}
 use Rattle.std.specs.List.{flat_map}
 use Rattle.hex.specs.Hex.{encode_lower}
+use Rattle.trace_lines.specs.declared.summary.Summary.{Summary}
 use Rattle.json.specs.Token.{Token, begin_array, begin_object, end_array, end_object, key, string}
-use Rattle.view_json.specs.declared.list.TraceLine.{TraceLine}
 use Rattle.view_json.specs.declared.list.Stats.{Stats}
 use Rattle.view_json.specs.Seen.{hex_member, long_member, number_member, text_member}
 
@@ -19,26 +19,27 @@ unfoldable pub short : List ℕ → List ℕ
 short text = take_chars 120 text ++ mark (nat_lt (length (take_chars 120 text)) (length text))
 
 -- what a trace of the list is called
-unfoldable pub name_members : TraceLine → List Token
-name_members line = hex_member (codes "traceId") (to_be_bytes w128 line.trace)
-    ++ text_member (codes "service") (short line.service.now)
-    ++ text_member (codes "name") (short line.name.now)
+unfoldable pub name_members : Summary → List Token
+name_members summary = hex_member (codes "traceId") (to_be_bytes w128 summary.trace)
+    ++ text_member (codes "service") (short summary.service.now)
+    ++ text_member (codes "name") (short summary.name.now)
 
 -- its time, and what is counted of it
-unfoldable pub count_members : TraceLine → List Token
-count_members line = long_member (codes "startTimeUnixNano") line.start_time_unix_nano
-    ++ long_member (codes "endTimeUnixNano") line.end_time_unix_nano
-    ++ number_member (codes "spans") line.spans
-    ++ number_member (codes "errors") line.errors
+unfoldable pub count_members : Summary → List Token
+count_members summary = long_member (codes "startTimeUnixNano") summary.start_time_unix_nano
+    ++ long_member (codes "endTimeUnixNano") summary.end_time_unix_nano
+    ++ number_member (codes "spans") summary.span_count
+    ++ number_member (codes "errors") summary.error_count
 
 -- a trace of the list
-unfoldable pub line_tokens : TraceLine → List Token
-line_tokens line = begin_object ∷ (name_members line ++ count_members line ++ end_object ∷ [])
+unfoldable pub summary_tokens : Summary → List Token
+summary_tokens summary =
+    begin_object ∷ (name_members summary ++ count_members summary ++ end_object ∷ [])
 
 -- the list
-unfoldable pub lines_tokens : List TraceLine → List Token
-lines_tokens lines = begin_object ∷ key (codes "traces") ∷ begin_array
-    ∷ (flat_map line_tokens lines ++ end_array ∷ end_object ∷ [])
+unfoldable pub list_tokens : List Summary → List Token
+list_tokens summaries = begin_object ∷ key (codes "traces") ∷ begin_array
+    ∷ (flat_map summary_tokens summaries ++ end_array ∷ end_object ∷ [])
 
 -- what is counted of spans
 unfoldable pub span_counts : Stats → List Token

@@ -15,6 +15,6 @@ mod span;
 mod trace;
 mod value;
 
-pub use list::{Stats, TraceLine, write_stats, write_traces};
+pub use list::{Stats, write_stats, write_traces};
 pub use metrics::{Answered, write_metrics};
 pub use pieces::TraceJson;

@@ -1,37 +1,18 @@
 //! The list of traces, and what is counted.
 
 ghost use Rattle.std.specs.Prelude.{◌≡◌, ◌∷◌, [], ◌++◌, IfOk, OnOk, map, string_bytes};
-ghost use Rattle.std.specs.Fmt.{take_chars};
 ghost use Rattle.std.specs.List.{flat_map};
 ghost use Rattle.json.specs.Lex.{tokens};
 ghost use Rattle.view_json.specs.Lists as spec;
-ghost use Rattle.view_json.specs.Lists.{count_members, evicted_member, line_tokens, lines_tokens};
-ghost use Rattle.view_json.specs.Lists.{name_members, pending_member, span_counts, stats_tokens};
+ghost use Rattle.view_json.specs.Lists.{count_members, evicted_member, list_tokens, name_members};
+ghost use Rattle.view_json.specs.Lists.{pending_member, span_counts, stats_tokens, summary_tokens};
 ghost use Rattle.view_json.specs.Lists.{trace_counts, trace_token};
 ghost use Rattle.view_json.specs.Seen.{text_member};
 
 use crate::field::{begin, begin_list, end, end_list, push_hex, push_long, push_number, push_text};
 use json::Writer;
 use std::alloc::{AllocError, Allocator};
-
-/// A trace as a list of traces has it.
-#[derive(Clone, Copy, Debug)]
-pub struct TraceLine<'a> {
-    /// Its number: the bytes of its identifier, the most significant first.
-    pub trace: u128,
-    /// The service that began it.
-    pub service: &'a str,
-    /// The name of its root.
-    pub name: &'a str,
-    /// Its earliest start, in nanoseconds since 1970.
-    pub start_time_unix_nano: u64,
-    /// Its latest end, in nanoseconds since 1970.
-    pub end_time_unix_nano: u64,
-    /// How many spans there are of it.
-    pub spans: u64,
-    /// How many of them are errors.
-    pub errors: u64,
-}
+use trace_lines::{Summary, front_of};
 
 /// What is counted.
 #[derive(Clone, Copy, Debug)]
@@ -49,14 +30,6 @@ pub struct Stats {
     /// How many bytes are pending, where that is known: of requests that arrive or are read, and of
     /// answers that wait to go out.
     pub pending_bytes: Option<u64>,
-}
-
-/// The first 120 characters of a text.
-#[tactic(auto, using(crate::proofs::Cut::cut_text))]
-fn front_of<A: Allocator>(alloc: A, text: &str) -> Result<String<A>, AllocError>
-    ensures { IfOk result (λ front. string_bytes front ≡ take_chars 120 text.now) }
-{
-    format!(in alloc; "{text:.120}")
 }
 
 /// The first 120 characters of a text, and a mark where it has more. Its memory doesn't grow with
@@ -92,59 +65,59 @@ fn push_short<A: Allocator + Copy>(
 fn push_names<A: Allocator + Copy>(
     alloc: A,
     out: &mut Writer<A>,
-    line: &TraceLine,
+    summary: &Summary,
 ) -> Result<(), AllocError>
-    ensures tokens { OnOk result (out.new.tokens ≡ out.old.tokens ++ name_members line.now) }
+    ensures tokens { OnOk result (out.new.tokens ≡ out.old.tokens ++ name_members summary.now) }
     ensures before { out.new.before ≡ out.old.before }
 {
-    push_hex(alloc, out, "traceId", &line.trace.to_be_bytes())?;
-    push_short(alloc, out, "service", line.service)?;
-    push_short(alloc, out, "name", line.name)?;
+    push_hex(alloc, out, "traceId", &summary.trace.to_be_bytes())?;
+    push_short(alloc, out, "service", summary.service)?;
+    push_short(alloc, out, "name", summary.name)?;
     Ok(())
 }
 
 /// Writes the time of a trace of the list, and what is counted of it.
 #[tactic(auto, unfolding(crate::specs::Lists::count_members))]
-fn push_counts<A: Allocator>(out: &mut Writer<A>, line: &TraceLine) -> Result<(), AllocError>
-    ensures tokens { OnOk result (out.new.tokens ≡ out.old.tokens ++ count_members line.now) }
+fn push_counts<A: Allocator>(out: &mut Writer<A>, summary: &Summary) -> Result<(), AllocError>
+    ensures tokens { OnOk result (out.new.tokens ≡ out.old.tokens ++ count_members summary.now) }
     ensures before { out.new.before ≡ out.old.before }
 {
-    push_long(out, "startTimeUnixNano", line.start_time_unix_nano)?;
-    push_long(out, "endTimeUnixNano", line.end_time_unix_nano)?;
-    push_number(out, "spans", line.spans)?;
-    push_number(out, "errors", line.errors)?;
+    push_long(out, "startTimeUnixNano", summary.start_time_unix_nano)?;
+    push_long(out, "endTimeUnixNano", summary.end_time_unix_nano)?;
+    push_number(out, "spans", summary.span_count)?;
+    push_number(out, "errors", summary.error_count)?;
     Ok(())
 }
 
 /// Writes a trace of the list.
-#[tactic(auto, unfolding(crate::specs::Lists::line_tokens))]
-fn push_line<A: Allocator + Copy>(
+#[tactic(auto, unfolding(crate::specs::Lists::summary_tokens))]
+fn push_summary<A: Allocator + Copy>(
     alloc: A,
     out: &mut Writer<A>,
-    line: &TraceLine,
+    summary: &Summary,
 ) -> Result<(), AllocError>
-    ensures tokens { OnOk result (out.new.tokens ≡ out.old.tokens ++ line_tokens line.now) }
+    ensures tokens { OnOk result (out.new.tokens ≡ out.old.tokens ++ summary_tokens summary.now) }
     ensures before { out.new.before ≡ out.old.before }
 {
     begin(out)?;
-    push_names(alloc, out, line)?;
-    push_counts(out, line)?;
+    push_names(alloc, out, summary)?;
+    push_counts(out, summary)?;
     end(out)?;
     Ok(())
 }
 
 /// Writes the traces of the list.
-fn push_lines<A: Allocator + Copy>(
+fn push_summaries<A: Allocator + Copy>(
     alloc: A,
     out: &mut Writer<A>,
-    lines: &[TraceLine],
+    summaries: &[Summary],
 ) -> Result<(), AllocError>
     ensures tokens { OnOk result (out.new.tokens
-        ≡ out.old.tokens ++ flat_map line_tokens lines.now) }
+        ≡ out.old.tokens ++ flat_map summary_tokens summaries.now) }
     ensures before { out.new.before ≡ out.old.before }
 {
-    for line in lines {
-        push_line(alloc, out, line)?;
+    for summary in summaries {
+        push_summary(alloc, out, summary)?;
     }
     Ok(())
 }
@@ -158,17 +131,17 @@ fn push_lines<A: Allocator + Copy>(
 /// # Errors
 ///
 /// `AllocError` where the text could not be stored.
-#[tactic(auto, unfolding(crate::specs::Lists::lines_tokens))]
+#[tactic(auto, unfolding(crate::specs::Lists::list_tokens))]
 pub fn write_traces<A: Allocator + Copy>(
     alloc: A,
-    lines: &[TraceLine],
+    summaries: &[Summary],
 ) -> Result<Vec<u8, A>, AllocError>
-    ensures { IfOk result (λ text. tokens text.items ≡ lines_tokens lines.now) }
+    ensures { IfOk result (λ text. tokens text.items ≡ list_tokens summaries.now) }
 {
     let mut out = Writer::new(Vec::new(alloc));
     begin(&mut out)?;
     begin_list(&mut out, "traces")?;
-    push_lines(alloc, &mut out, lines)?;
+    push_summaries(alloc, &mut out, summaries)?;
     end_list(&mut out)?;
     end(&mut out)?;
     Ok(out.into_inner())

@@ -1,13 +1,9 @@
 pub mod Chosen
-pub mod Cut
-pub mod Dates
 pub mod Doubles
 pub mod Each
-pub mod Empty
 pub mod Lacks
 pub mod Lines
 pub mod Parts
-pub mod Queries
 pub mod Planned
 pub mod Reading
 pub mod Rowless

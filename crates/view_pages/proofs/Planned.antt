@@ -10,7 +10,7 @@ use Rattle.trace_tree.specs.declared.span.Row.{Row}
 use Rattle.trace_store.specs.declared.span.ViewSpan.{ViewSpan}
 use Rattle.trace_lines.specs.Lines.{line_for}
 use Rattle.trace_lines.specs.Plans.{IsPlan, tree_span, values}
-use Rattle.trace_lines.specs.Spans.{frame_of}
+use Rattle.trace_lines.specs.Times.{frame_of}
 use Rattle.trace_lines.specs.declared.line.Line.{Line}
 use Rattle.view_pages.specs.Html.{Html, html_bytes, ◌▹◌}
 use Rattle.view_pages.specs.Pages.{DrawsPage, end_html, head_html, start_html, title_html}

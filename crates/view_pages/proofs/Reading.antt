@@ -125,8 +125,8 @@ before_quote (d ∷ ds) rest h =
 
 reads_number : (n : ℕ) (rest : List ℕ) → n < 2 ^ 64 → number_in (decimal n ++ 39 ∷ rest) ≡ n
 reads_number n rest h =
-    let is = decimal_is_IsNumeral n h in
-    ap (digits_value 10) (before_quote (decimal n) rest is.0.1) ∙ is.1
+    let ((some, digits), value) = decimal_is_IsNumeral n h in
+    ap (digits_value 10) (before_quote (decimal n) rest digits) ∙ value
 
 -- a row says its place
 row_here : (after : List ℕ) → place_here (row_start ++ after) ≡ number_in after ∷ []

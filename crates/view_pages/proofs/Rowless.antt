@@ -15,24 +15,24 @@ use Rattle.trace_tree.specs.declared.span.Place.TheVariants.{Root, Child, Orphan
 use Rattle.trace_store.specs.declared.span.ViewResource.{ViewResource}
 use Rattle.trace_store.specs.declared.span.ViewScope.{ViewScope}
 use Rattle.trace_store.specs.declared.span.ViewSpan.{ViewSpan}
-use Rattle.view_pages.specs.Html.{Html, each}
+use Rattle.view_pages.specs.Html.{Html, each, markup_if, text_after}
 use Rattle.view_pages.specs.Pages.{axis_html, counts_html, head_html, start_html, title_html}
 use Rattle.view_pages.specs.Dates.{date_html, fraction_html, hour_html, moment_html, three_html}
 use Rattle.view_pages.specs.Dates.{two_html}
-use Rattle.view_pages.specs.Panels.{instant_html, message_html, parent_html, parent_link_html}
-use Rattle.view_pages.specs.Panels.{trace_state_html, attributes_html, both_html, context_html}
+use Rattle.view_pages.specs.Panels.{instant_html, parent_html, parent_link_html}
+use Rattle.view_pages.specs.Panels.{attributes_html, both_html, context_html}
 use Rattle.view_pages.specs.Panels.{dropped_html, event_html, event_name_html, events_html}
 use Rattle.view_pages.specs.Panels.{facts_html, ids_html, kind_html, link_html, links_html}
 use Rattle.view_pages.specs.Panels.{list_html, offset_html, panel_html, parts_html, place_html}
 use Rattle.view_pages.specs.Panels.{resource_html, scope_html, state_html, status_html, times_html}
 use Rattle.view_pages.specs.Panels.{url_html, version_html}
-use Rattle.view_pages.specs.Rows.{name_html, bad_html, bar_html, class_html, depth_html, id_html}
+use Rattle.view_pages.specs.Rows.{name_html, bar_html, class_html, depth_html, id_html}
 use Rattle.view_pages.specs.Rows.{label_html, remark_html, remarks_html, span_html, span_rest}
 use Rattle.view_pages.specs.Rows.{tag_html, tick_html, time_html}
 use Rattle.view_pages.specs.Times.{duration, scaled}
 use Rattle.view_pages.specs.Values.{pair_html, pairs_html, value_html, values_html}
-use Rattle.view_pages.specs.declared.date.MonthDay.{MonthDay}
-use Rattle.view_pages.specs.declared.date.YearDay.{YearDay}
+use Rattle.trace_lines.specs.declared.date.MonthDay.{MonthDay}
+use Rattle.trace_lines.specs.declared.date.YearDay.{YearDay}
 use Rattle.trace_lines.specs.declared.line.Line.{Line}
 use Rattle.trace_tree.specs.declared.draw.Frame.{Frame}
 use Rattle.view_pages.proofs.Doubles.{lacks_double}
@@ -46,6 +46,16 @@ rowless_each part (x ∷ xs) h = (h x, rowless_each part xs h)
 rowless_if : (x : Bool) (a b : Html) → IsRowless a → IsRowless b → IsRowless (cond x a b)
 rowless_if true a b h k = h
 rowless_if false a b h k = k
+
+rowless_markup_if : (holds : Bool) (markup : List ℕ) → is_rowless markup ≡ true
+    → IsRowless (markup_if holds markup)
+unfolding markup_if
+rowless_markup_if holds markup h = rowless_if holds _ _ h tt
+
+rowless_after : (before text : List ℕ) → is_rowless before ≡ true
+    → IsRowless (text_after before text)
+unfolding text_after
+rowless_after before text h = rowless_if (length text == 0) _ _ tt (h, tt)
 
 -- ---- times
 
@@ -147,13 +157,10 @@ rowless_place : (trace span : List ℕ) → IsRowless (place_html trace span)
 unfolding place_html
 rowless_place trace span = (refl, (tt, (refl, (tt, (refl, (rowless_both trace span, refl))))))
 
-rowless_trace_state : (state : List ℕ) → IsRowless (trace_state_html state)
-unfolding trace_state_html
-rowless_trace_state state = rowless_if (length state == 0) _ _ tt (refl, tt)
-
 rowless_context : (state : List ℕ) (flags : ℕ) → IsRowless (context_html state flags)
 unfolding context_html
-rowless_context state flags = (rowless_trace_state state, (refl, (tt, refl)))
+rowless_context state flags =
+    (rowless_after (codes "<dt>trace state<dd>") state refl, (refl, (tt, refl)))
 
 rowless_link : {A : Type 0} (link : Link A) → IsRowless (link_html link)
 unfolding link_html
@@ -241,17 +248,19 @@ rowless_ids : {A : Type 0} (span : Span A) (place : Place) → IsRowless (ids_ht
 unfolding ids_html
 rowless_ids span place = (refl, (tt, rowless_parent place span.parent_span_id.items))
 
-rowless_message : (message : List ℕ) → IsRowless (message_html message)
-unfolding message_html
-rowless_message message = rowless_if (length message == 0) _ _ tt (refl, tt)
-
 rowless_state : {A : Type 0} (span : Span A) → IsRowless (state_html span)
 unfolding state_html
 rowless_state span = (
   refl,
   (
     rowless_kind span.kind,
-    (refl, (rowless_status span.status.code, rowless_message (string_bytes span.status.message))),
+    (
+      refl,
+      (
+        rowless_status span.status.code,
+        rowless_after (codes ": ") (string_bytes span.status.message) refl,
+      ),
+    ),
   ),
 )
 
@@ -355,17 +364,14 @@ rowless_remarks span place is_repeated = (
   ),
 )
 
-rowless_bad : (bad : Bool) → IsRowless (bad_html bad)
-unfolding bad_html
-rowless_bad bad = rowless_if bad _ _ refl tt
-
 rowless_id : (is_first : Bool) (id : List ℕ) → IsRowless (id_html is_first id)
 unfolding id_html
 rowless_id is_first id = rowless_if is_first _ _ (refl, tt) tt
 
 rowless_class : {A : Type 0} (s : ViewSpan A) (line : Line) → IsRowless (class_html s line)
 unfolding class_html
-rowless_class s line = (refl, (tt, (rowless_bad _, rowless_id line.mark.is_first _)))
+rowless_class s line =
+    (refl, (tt, (rowless_markup_if _ (codes " bad") refl, rowless_id line.mark.is_first _)))
 
 rowless_depth : (depth : ℕ) → IsRowless (depth_html depth)
 unfolding depth_html

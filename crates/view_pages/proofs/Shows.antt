@@ -14,7 +14,7 @@ use Rattle.trace_lines.specs.Lines.{line_for}
 use Rattle.view_pages.specs.Pages.{head_html, trace_html}
 use Rattle.view_pages.specs.Reading.{places_in, row_start}
 use Rattle.view_pages.specs.Rows.{page_row, page_rows, row_html, span_rest}
-use Rattle.trace_lines.specs.Spans.{frame_of}
+use Rattle.trace_lines.specs.Times.{frame_of}
 use Rattle.trace_tree.specs.declared.draw.Frame.{Frame}
 use Rattle.view_pages.proofs.Reading.{reads_row, skip_parts}
 use Rattle.view_pages.proofs.Rowless.{rowless_head, rowless_rest}

@@ -1,5 +1,6 @@
 -- What is written of a page, part after part.
-use Rattle.std.specs.Prelude.{ℕ, ℤ, List, [], ◌∷◌, ◌++◌, decimal, encode_utf8_all}
+use Rattle.std.specs.Prelude.{◌≡◌, ℕ, ℤ, Bool, ◌==◌, if◌then◌else◌, List, [], ◌∷◌, ◌++◌}
+use Rattle.std.specs.Prelude.{String, decimal, encode_utf8_all, length, string_bytes}
 use Rattle.std.specs.Fmt.{signed_decimal}
 use Rattle.std.specs.Str.{chars}
 use Rattle.hex.specs.Hex.{encode_lower}
@@ -40,3 +41,15 @@ html_bytes (first ▹ next) = html_bytes first ++ html_bytes next
 abbrev pub each : {X : Type 0} → (X → Html) → List X → Html
 each part [] = Nothing
 each part (x ∷ xs) = part x ▹ each part xs
+
+-- A page with the first text has the second one now: the same, with one more part at its end.
+abbrev pub Appends : {A : Type 0} → String A → String A → Html → Type 0
+Appends old new part = string_bytes new ≡ string_bytes old ++ html_bytes part
+
+-- what the template says, where something holds
+unfoldable pub markup_if : Bool → List ℕ → Html
+markup_if holds markup = if holds then Markup markup else Nothing
+
+-- a text from outside after what the template says, unless the text is empty
+unfoldable pub text_after : List ℕ → List ℕ → Html
+text_after before text = if length text == 0 then Nothing else Markup before ▹ Text text

@@ -3,7 +3,6 @@ pub mod Html
 pub mod Lists
 pub mod Pages
 pub mod Panels
-pub mod Queries
 pub mod Pieces
 pub mod Reading
 pub mod Rows

@@ -7,7 +7,7 @@ use Rattle.trace_tree.specs.declared.draw.Frame.{Frame}
 use Rattle.trace_tree.specs.declared.span.Row.{Row}
 use Rattle.trace_store.specs.declared.span.ViewSpan.{ViewSpan}
 use Rattle.trace_lines.specs.Plans.{tree_of, values}
-use Rattle.trace_lines.specs.Spans.{frame_of}
+use Rattle.trace_lines.specs.Times.{frame_of}
 use Rattle.view_pages.specs.Html.{Html, html_bytes, Markup, Number, Digits, ◌▹◌, each}
 use Rattle.view_pages.specs.Rows.{page_rows, row_html}
 use Rattle.view_pages.specs.Times.{duration}

@@ -1,6 +1,6 @@
 -- What the panel of a span says.
 use Rattle.std.specs.Prelude.{ℕ, ◌-◌, ◌==◌, nat_lt, if◌then◌else◌, ℤ, pos, negsuc, List}
-use Rattle.std.specs.Prelude.{String, length, codes, string_bytes}
+use Rattle.std.specs.Prelude.{String, codes, string_bytes}
 use Rattle.std.specs.Arc.{arc_value}
 use Rattle.std.specs.Int.{w32, to_be_bytes}
 use Rattle.otlp_read.specs.declared.any_value.AnyValue.{AnyValue as Received}
@@ -14,6 +14,7 @@ use Rattle.trace_store.specs.declared.span.ViewScope.{ViewScope}
 use Rattle.trace_store.specs.declared.span.ViewSpan.{ViewSpan}
 use Rattle.view_pages.specs.Dates.{moment_html}
 use Rattle.view_pages.specs.Html.{Html, Nothing, Markup, Text, Number, Signed, Digits, ◌▹◌, each}
+use Rattle.view_pages.specs.Html.{text_after}
 use Rattle.view_pages.specs.Times.{duration}
 use Rattle.view_pages.specs.Values.{pair_html}
 
@@ -72,9 +73,8 @@ abbrev pub flags_html : ℕ → Html
 flags_html flags = Digits (to_be_bytes w32 flags)
 
 -- a trace state, unless it is empty
-unfoldable pub trace_state_html : List ℕ → Html
-trace_state_html state =
-    if length state == 0 then Nothing else Markup (codes "<dt>trace state<dd>") ▹ Text state
+abbrev pub trace_state_html : List ℕ → Html
+trace_state_html state = text_after (codes "<dt>trace state<dd>") state
 
 -- the trace state and the flags of a span or a link
 unfoldable pub context_html : List ℕ → ℕ → Html
@@ -165,8 +165,8 @@ ids_html span place =
     ▹ parent_html place span.parent_span_id.items
 
 -- what is said of a status, unless it is nothing
-unfoldable pub message_html : List ℕ → Html
-message_html message = if length message == 0 then Nothing else Markup (codes ": ") ▹ Text message
+abbrev pub message_html : List ℕ → Html
+message_html message = text_after (codes ": ") message
 
 -- its kind, its status and what is said of that
 unfoldable pub state_html : {A : Type 0} → Span A → Html

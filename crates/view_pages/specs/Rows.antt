@@ -9,11 +9,12 @@ use Rattle.trace_tree.specs.declared.span.Place.TheVariants.{Root, Child, Orphan
 use Rattle.trace_tree.specs.declared.span.Row.{Row}
 use Rattle.trace_store.specs.declared.span.ViewSpan.{ViewSpan}
 use Rattle.view_pages.specs.Html.{Html, Nothing, Markup, Text, Number, Digits, ◌▹◌, each}
+use Rattle.view_pages.specs.Html.{markup_if}
 use Rattle.view_pages.specs.Panels.{panel_html}
+use Rattle.trace_store.specs.Facts.{is_error, service_of}
 use Rattle.trace_lines.specs.Lines.{line_for}
-use Rattle.trace_lines.specs.Spans.{end_of, ends_early, frame_of, is_error}
-use Rattle.trace_lines.specs.Spans.{service_of, time_of}
-use Rattle.view_pages.specs.Times.{duration, share_of}
+use Rattle.trace_lines.specs.Times.{ends_early, frame_of, share_of, time_of, width_of}
+use Rattle.view_pages.specs.Times.{duration}
 use Rattle.trace_lines.specs.declared.line.Line.{Line}
 use Rattle.trace_tree.specs.declared.draw.Frame.{Frame}
 
@@ -43,10 +44,6 @@ remarks_html span place is_repeated =
     ▹ remark_html (ends_early span) (codes "ends before it starts")
     ▹ remark_html is_repeated (codes "identifier is repeated")
 
--- a mark of a row with an error
-unfoldable pub bad_html : Bool → Html
-bad_html bad = if bad then Markup (codes " bad") else Nothing
-
 -- the identifier by which links come here: the first span of the list that has it gets it
 unfoldable pub id_html : Bool → List ℕ → Html
 id_html is_first id = if is_first then Markup (codes "' id='s-") ▹ Digits id else Nothing
@@ -55,7 +52,7 @@ id_html is_first id = if is_first then Markup (codes "' id='s-") ▹ Digits id e
 unfoldable pub class_html : {A : Type 0} → ViewSpan A → Line → Html
 class_html s line =
     Markup (codes " class='row c") ▹ Number line.colour
-    ▹ bad_html (is_error s.span) ▹ id_html line.mark.is_first s.span.span_id.items
+    ▹ markup_if (is_error s.span) (codes " bad") ▹ id_html line.mark.is_first s.span.span_id.items
 
 -- a depth, counted from 1
 abbrev pub level_of : ℕ → ℕ
@@ -66,10 +63,6 @@ unfoldable pub depth_html : ℕ → Html
 depth_html depth =
     Markup (codes "' aria-level='") ▹ Number (level_of depth)
     ▹ Markup (codes "' style='--d:") ▹ Number depth
-
--- how wide the bar of a span is
-abbrev pub width_of : {A : Type 0} → Span A → Frame → ℕ
-width_of span frame = share_of frame (end_of span) - share_of frame span.start_time_unix_nano
 
 -- where the bar begins, and how wide it is, in ten thousandths
 unfoldable pub bar_html : {A : Type 0} → Span A → Frame → Html

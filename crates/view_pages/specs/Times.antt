@@ -1,13 +1,6 @@
--- When spans are, within the time of their trace.
-use Rattle.std.specs.Prelude.{ℕ, ◌-◌, ◌*◌, ◌/◌, ◌%◌, min, ◌==◌, nat_lt, if◌then◌else◌, List, codes}
+-- How long something took, in words.
+use Rattle.std.specs.Prelude.{ℕ, ◌/◌, ◌%◌, nat_lt, if◌then◌else◌, List, codes}
 use Rattle.view_pages.specs.Html.{Html, Markup, Number, ◌▹◌}
-use Rattle.trace_tree.specs.declared.draw.Frame.{Frame}
-
--- how long after the start of the trace a time is, in ten thousandths of the time that it takes
-unfoldable pub share_of : Frame → ℕ → ℕ
-share_of frame time =
-    if frame.until - frame.from == 0 then 0
-    else min ((time - frame.from) * 10000 / (frame.until - frame.from)) 10000
 
 -- so many nanoseconds in a unit of so many, with two digits after the point
 unfoldable pub scaled : ℕ → ℕ → List ℕ → Html

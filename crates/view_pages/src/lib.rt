@@ -6,7 +6,6 @@
 #![tactic(auto)]
 
 mod date;
-mod filter;
 mod html;
 mod list;
 mod page;
@@ -14,12 +13,9 @@ mod panel;
 mod pieces;
 mod row;
 mod style;
-mod summary;
 mod times;
 mod value;
 
-pub use filter::{Filter, FilterFault};
 pub use list::{write_list_page, write_notice_page};
 pub use pieces::TracePage;
 pub use style::STYLE;
-pub use summary::{Summary, summary_of_digest};

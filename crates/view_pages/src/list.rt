@@ -1,61 +1,35 @@
 //! The list of traces.
 
-ghost use Rattle.std.specs.Prelude.{◌≡◌, ◌++◌, IfOk, OnOk, string_bytes};
-ghost use Rattle.std.specs.Fmt.{take_chars};
-ghost use Rattle.view_pages.specs.Html.{each, html_bytes};
-ghost use Rattle.view_pages.specs.Lists.{address_html, checked_html, empty_html, form_html};
-ghost use Rattle.view_pages.specs.Lists.{grouped, list_head_html, list_html, millions, more_html};
-ghost use Rattle.view_pages.specs.Lists.{name_html, none_html, notice_html, query_html, root_html};
+ghost use Rattle.std.specs.Prelude.{OnOk};
+ghost use Rattle.view_pages.specs.Html.{Appends, each};
+ghost use Rattle.view_pages.specs.Lists.{empty_html, form_html, grouped, list_head_html, list_html};
+ghost use Rattle.view_pages.specs.Lists.{millions, name_html, none_html, notice_html, root_html};
 ghost use Rattle.view_pages.specs.Lists.{short_html, shown_html, sizes_html, some_html};
-ghost use Rattle.view_pages.specs.Lists.{summary_html, table_html, texts_html, thousands, three};
+ghost use Rattle.view_pages.specs.Lists.{summary_html, table_html, texts_html, thousands};
 ghost use Rattle.view_pages.specs.Lists.{when_html};
 
-use crate::date::push_second;
-use crate::filter::Filter;
-use crate::html::{push_digits, push_markup, push_number, push_text};
+use crate::date::{push_second, push_three};
+use crate::html::{push_after, push_digits, push_if, push_markup, push_number, push_text};
 use crate::page::push_start;
-use crate::summary::Summary;
 use crate::times::push_duration;
 use otlp_ids::OutOfMemory;
 use std::alloc::Allocator;
-
-/// Appends that a text is only the beginning of a longer one.
-#[tactic(auto, unfolding(crate::specs::Html::html_bytes, crate::specs::Lists::more_html))]
-fn push_more<A: Allocator>(out: &mut String<A>, is_longer: bool) -> Result<(), OutOfMemory>
-    ensures { OnOk result (string_bytes out.new
-        ≡ string_bytes out.old ++ html_bytes (more_html is_longer)) }
-{
-    if is_longer {
-        push_markup(out, "&hellip;")
-    } else {
-        Ok(())
-    }
-}
-
-/// The first 120 characters of a text.
-#[tactic(auto, using(crate::proofs::Cut::cut_text))]
-fn front_of<A: Allocator>(alloc: A, text: &str) -> Result<String<A>, OutOfMemory>
-    ensures { IfOk result (λ front. string_bytes front ≡ take_chars 120 text.now) }
-{
-    Ok(format!(in alloc; "{text:.120}")?)
-}
+use trace_lines::{Filter, Summary, front_of};
 
 /// Appends the first 120 characters of a text, and a mark where it has more. Its memory doesn't
 /// grow with the text.
 fn push_short<A: Allocator + Copy>(out: &mut String<A>, text: &str) -> Result<(), OutOfMemory>
-    ensures { OnOk result (string_bytes out.new
-        ≡ string_bytes out.old ++ html_bytes (short_html text.now)) }
+    ensures { OnOk result (Appends out.old out.new (short_html text.now)) }
 {
     let front = front_of(*out.allocator(), text)?;
     push_text(out, &front)?;
-    push_more(out, front.len() < text.len())
+    push_if(out, front.len() < text.len(), "&hellip;")
 }
 
 /// Appends the name of a root.
 #[tactic(auto, unfolding(crate::specs::Lists::root_html))]
 fn push_root<A: Allocator + Copy>(out: &mut String<A>, name: &str) -> Result<(), OutOfMemory>
-    ensures { OnOk result (string_bytes out.new
-        ≡ string_bytes out.old ++ html_bytes (root_html name.now)) }
+    ensures { OnOk result (Appends out.old out.new (root_html name.now)) }
 {
     if name.is_empty() {
         push_markup(out, "<i>(no name)</i>")
@@ -64,31 +38,17 @@ fn push_root<A: Allocator + Copy>(out: &mut String<A>, name: &str) -> Result<(),
     }
 }
 
-/// Appends a query to a link.
-#[tactic(auto, unfolding(crate::specs::Html::html_bytes, crate::specs::Lists::query_html))]
-pub(crate) fn push_query<A: Allocator>(out: &mut String<A>, query: &str) -> Result<(), OutOfMemory>
-    ensures { OnOk result (string_bytes out.new
-        ≡ string_bytes out.old ++ html_bytes (query_html query.now)) }
-{
-    if query.is_empty() {
-        return Ok(());
-    }
-    push_markup(out, "?")?;
-    push_text(out, query)
-}
-
 /// Appends the name of a trace, which leads to its page.
 fn push_name<A: Allocator + Copy>(
     out: &mut String<A>,
     query: &str,
     summary: &Summary,
 ) -> Result<(), OutOfMemory>
-    ensures { OnOk result (string_bytes out.new
-        ≡ string_bytes out.old ++ html_bytes (name_html query.now summary.now)) }
+    ensures { OnOk result (Appends out.old out.new (name_html query.now summary.now)) }
 {
     push_markup(out, "<tr><td><a href='/trace/")?;
     push_digits(out, &summary.trace.to_be_bytes())?;
-    push_query(out, query)?;
+    push_after(out, "?", query)?;
     push_markup(out, "'>")?;
     push_root(out, summary.name)?;
     push_markup(out, "</a>")
@@ -99,8 +59,7 @@ fn push_sizes<A: Allocator + Copy>(
     out: &mut String<A>,
     summary: &Summary,
 ) -> Result<(), OutOfMemory>
-    ensures { OnOk result (string_bytes out.new
-        ≡ string_bytes out.old ++ html_bytes (sizes_html summary.now)) }
+    ensures { OnOk result (Appends out.old out.new (sizes_html summary.now)) }
 {
     push_markup(out, "<td>")?;
     push_short(out, summary.service)?;
@@ -112,11 +71,10 @@ fn push_sizes<A: Allocator + Copy>(
 
 /// Appends how long a trace took and when it began.
 fn push_when<A: Allocator>(out: &mut String<A>, summary: &Summary) -> Result<(), OutOfMemory>
-    ensures { OnOk result (string_bytes out.new
-        ≡ string_bytes out.old ++ html_bytes (when_html summary.now)) }
+    ensures { OnOk result (Appends out.old out.new (when_html summary.now)) }
 {
     push_markup(out, "<td>")?;
-    push_duration(out, summary.duration_nanos)?;
+    push_duration(out, summary.duration_nanos())?;
     push_markup(out, "<td>")?;
     push_second(out, summary.start_time_unix_nano)
 }
@@ -127,8 +85,7 @@ fn push_summary<A: Allocator + Copy>(
     query: &str,
     summary: &Summary,
 ) -> Result<(), OutOfMemory>
-    ensures { OnOk result (string_bytes out.new
-        ≡ string_bytes out.old ++ html_bytes (summary_html query.now summary.now)) }
+    ensures { OnOk result (Appends out.old out.new (summary_html query.now summary.now)) }
 {
     push_name(out, query, summary)?;
     push_sizes(out, summary)?;
@@ -142,8 +99,7 @@ fn push_summaries<A: Allocator + Copy>(
     query: &str,
     summaries: &[Summary],
 ) -> Result<(), OutOfMemory>
-    ensures { OnOk result (string_bytes out.new
-        ≡ string_bytes out.old ++ html_bytes (each (summary_html query.now) summaries.now)) }
+    ensures { OnOk result (Appends out.old out.new (each (summary_html query.now) summaries.now)) }
 {
     for summary in summaries {
         push_summary(out, query, summary)?;
@@ -153,8 +109,7 @@ fn push_summaries<A: Allocator + Copy>(
 
 /// Appends the boxes of the filter.
 fn push_texts<A: Allocator>(out: &mut String<A>, filter: &Filter<A>) -> Result<(), OutOfMemory>
-    ensures { OnOk result (string_bytes out.new
-        ≡ string_bytes out.old ++ html_bytes (texts_html filter.now)) }
+    ensures { OnOk result (Appends out.old out.new (texts_html filter.now)) }
 {
     push_markup(out, "<form><label>Service<input name='service' value='")?;
     push_text(out, &filter.service)?;
@@ -169,23 +124,9 @@ fn push_texts<A: Allocator>(out: &mut String<A>, filter: &Filter<A>) -> Result<(
     )
 }
 
-/// Appends that a box is checked, if it is.
-#[tactic(auto, unfolding(crate::specs::Html::html_bytes, crate::specs::Lists::checked_html))]
-fn push_checked<A: Allocator>(out: &mut String<A>, checked: bool) -> Result<(), OutOfMemory>
-    ensures { OnOk result (string_bytes out.new
-        ≡ string_bytes out.old ++ html_bytes (checked_html checked)) }
-{
-    if checked {
-        push_markup(out, " checked")
-    } else {
-        Ok(())
-    }
-}
-
 /// Appends the form of the filter.
 fn push_form<A: Allocator>(out: &mut String<A>, filter: &Filter<A>) -> Result<(), OutOfMemory>
-    ensures { OnOk result (string_bytes out.new
-        ≡ string_bytes out.old ++ html_bytes (form_html filter.now)) }
+    ensures { OnOk result (Appends out.old out.new (form_html filter.now)) }
 {
     push_texts(out, filter)?;
     push_number(out, filter.least_ms)?;
@@ -193,24 +134,13 @@ fn push_form<A: Allocator>(out: &mut String<A>, filter: &Filter<A>) -> Result<()
         out,
         "'></label><label>Errors only<input type='checkbox' name='errors' value='1'",
     )?;
-    push_checked(out, filter.errors_only)?;
+    push_if(out, filter.errors_only, " checked")?;
     push_markup(out, "></label><button>Show</button></form>")
-}
-
-/// Appends three digits.
-fn push_three<A: Allocator>(out: &mut String<A>, number: u64) -> Result<(), OutOfMemory>
-    ensures { OnOk result (string_bytes out.new
-        ≡ string_bytes out.old ++ html_bytes (three number)) }
-{
-    push_number(out, number / 100)?;
-    push_number(out, number / 10 % 10)?;
-    push_number(out, number % 10)
 }
 
 /// Appends a number of at most six digits, in groups of three.
 fn push_thousands<A: Allocator>(out: &mut String<A>, number: u64) -> Result<(), OutOfMemory>
-    ensures { OnOk result (string_bytes out.new
-        ≡ string_bytes out.old ++ html_bytes (thousands number)) }
+    ensures { OnOk result (Appends out.old out.new (thousands number)) }
 {
     push_number(out, number / 1_000)?;
     push_markup(out, ",")?;
@@ -219,8 +149,7 @@ fn push_thousands<A: Allocator>(out: &mut String<A>, number: u64) -> Result<(), 
 
 /// Appends a greater number, in groups of three.
 fn push_millions<A: Allocator>(out: &mut String<A>, number: u64) -> Result<(), OutOfMemory>
-    ensures { OnOk result (string_bytes out.new
-        ≡ string_bytes out.old ++ html_bytes (millions number)) }
+    ensures { OnOk result (Appends out.old out.new (millions number)) }
 {
     push_number(out, number / 1_000_000)?;
     push_markup(out, ",")?;
@@ -232,8 +161,7 @@ fn push_millions<A: Allocator>(out: &mut String<A>, number: u64) -> Result<(), O
 /// Appends a number, its digits in groups of three.
 #[tactic(auto, unfolding(crate::specs::Lists::grouped))]
 fn push_grouped<A: Allocator>(out: &mut String<A>, number: u64) -> Result<(), OutOfMemory>
-    ensures { OnOk result (string_bytes out.new
-        ≡ string_bytes out.old ++ html_bytes (grouped number)) }
+    ensures { OnOk result (Appends out.old out.new (grouped number)) }
 {
     if number < 1_000 {
         push_number(out, number)
@@ -244,33 +172,18 @@ fn push_grouped<A: Allocator>(out: &mut String<A>, number: u64) -> Result<(), Ou
     }
 }
 
-/// Appends the address at which traces are taken, up to its path.
-#[tactic(auto, unfolding(crate::specs::Html::html_bytes, crate::specs::Lists::address_html))]
-fn push_address<A: Allocator>(out: &mut String<A>, host: &str) -> Result<(), OutOfMemory>
-    ensures { OnOk result (string_bytes out.new
-        ≡ string_bytes out.old ++ html_bytes (address_html host.now)) }
-{
-    if host.is_empty() {
-        return Ok(());
-    }
-    push_markup(out, "http://")?;
-    push_text(out, host)
-}
-
 /// Appends where traces are to be sent, since none is here.
 fn push_empty<A: Allocator>(out: &mut String<A>, host: &str) -> Result<(), OutOfMemory>
-    ensures { OnOk result (string_bytes out.new
-        ≡ string_bytes out.old ++ html_bytes (empty_html host.now)) }
+    ensures { OnOk result (Appends out.old out.new (empty_html host.now)) }
 {
     push_markup(out, "<p>No trace is here yet. Post traces to <code>")?;
-    push_address(out, host)?;
+    push_after(out, "http://", host)?;
     push_markup(out, "/v1/traces</code>.</p>")
 }
 
 /// Appends that none of the traces that are kept is in the list.
 fn push_none<A: Allocator>(out: &mut String<A>, total: u64) -> Result<(), OutOfMemory>
-    ensures { OnOk result (string_bytes out.new
-        ≡ string_bytes out.old ++ html_bytes (none_html total)) }
+    ensures { OnOk result (Appends out.old out.new (none_html total)) }
 {
     push_markup(out, "<p>Nothing matches. Traces that are kept: ")?;
     push_grouped(out, total)?;
@@ -279,8 +192,7 @@ fn push_none<A: Allocator>(out: &mut String<A>, total: u64) -> Result<(), OutOfM
 
 /// Appends that some of the traces that are kept are in the list.
 fn push_some<A: Allocator>(out: &mut String<A>, shown: u64, total: u64) -> Result<(), OutOfMemory>
-    ensures { OnOk result (string_bytes out.new
-        ≡ string_bytes out.old ++ html_bytes (some_html shown total)) }
+    ensures { OnOk result (Appends out.old out.new (some_html shown total)) }
 {
     push_markup(out, "<p>Showing ")?;
     push_grouped(out, shown)?;
@@ -297,8 +209,7 @@ fn push_shown<A: Allocator>(
     shown: u64,
     total: u64,
 ) -> Result<(), OutOfMemory>
-    ensures { OnOk result (string_bytes out.new
-        ≡ string_bytes out.old ++ html_bytes (shown_html host.now shown total)) }
+    ensures { OnOk result (Appends out.old out.new (shown_html host.now shown total)) }
 {
     if total == 0 {
         push_empty(out, host)
@@ -313,8 +224,7 @@ fn push_shown<A: Allocator>(
 
 /// Appends what is above the rows.
 fn push_list_head<A: Allocator>(out: &mut String<A>, filter: &Filter<A>) -> Result<(), OutOfMemory>
-    ensures { OnOk result (string_bytes out.new
-        ≡ string_bytes out.old ++ html_bytes (list_head_html filter.now)) }
+    ensures { OnOk result (Appends out.old out.new (list_head_html filter.now)) }
 {
     push_start(out)?;
     push_markup(out, "Traces</title><header><h1>Traces</h1>")?;
@@ -327,8 +237,7 @@ fn push_table<A: Allocator + Copy>(
     query: &str,
     summaries: &[Summary],
 ) -> Result<(), OutOfMemory>
-    ensures { OnOk result (string_bytes out.new
-        ≡ string_bytes out.old ++ html_bytes (table_html query.now summaries.now)) }
+    ensures { OnOk result (Appends out.old out.new (table_html query.now summaries.now)) }
 {
     push_markup(
         out,
@@ -361,8 +270,8 @@ pub fn write_list_page<A: Allocator + Copy>(
     summaries: &[Summary],
     total: u64,
 ) -> Result<(), OutOfMemory>
-    ensures { OnOk result (string_bytes out.new ≡ string_bytes out.old
-        ++ html_bytes (list_html filter.now query.now host.now summaries.now total)) }
+    ensures { OnOk result
+        (Appends out.old out.new (list_html filter.now query.now host.now summaries.now total)) }
 {
     push_list_head(out, filter)?;
     push_shown(out, host, summaries.len() as u64, total)?;
@@ -381,13 +290,12 @@ pub fn write_notice_page<A: Allocator>(
     title: &str,
     advice: &str,
 ) -> Result<(), OutOfMemory>
-    ensures { OnOk result (string_bytes out.new
-        ≡ string_bytes out.old ++ html_bytes (notice_html query.now title.now advice.now)) }
+    ensures { OnOk result (Appends out.old out.new (notice_html query.now title.now advice.now)) }
 {
     push_start(out)?;
     push_text(out, title)?;
     push_markup(out, "</title><header><a href='/")?;
-    push_query(out, query)?;
+    push_after(out, "?", query)?;
     push_markup(out, "'>All traces</a><h1>")?;
     push_text(out, title)?;
     push_markup(out, "</h1><p>")?;

@@ -1,7 +1,7 @@
 //! What is around the rows of the page of a trace.
 
-ghost use Rattle.std.specs.Prelude.{◌≡◌, ◌++◌, OnOk, string_bytes};
-ghost use Rattle.view_pages.specs.Html.{html_bytes};
+ghost use Rattle.std.specs.Prelude.{OnOk};
+ghost use Rattle.view_pages.specs.Html.{Appends};
 ghost use Rattle.view_pages.specs.Pages.{axis_html, counts_html, end_html, head_html, start_html};
 ghost use Rattle.view_pages.specs.Pages.{title_html};
 
@@ -13,8 +13,7 @@ use trace_tree::Frame;
 
 /// Appends what each page begins with, up to its title.
 pub(crate) fn push_start<A: Allocator>(out: &mut String<A>) -> Result<(), OutOfMemory>
-    ensures { OnOk result (string_bytes out.new
-        ≡ string_bytes out.old ++ html_bytes start_html) }
+    ensures { OnOk result (Appends out.old out.new start_html) }
 {
     push_markup(out, "<!doctype html><html lang='en'><meta charset='utf-8'>")?;
     push_markup(
@@ -27,8 +26,7 @@ pub(crate) fn push_start<A: Allocator>(out: &mut String<A>) -> Result<(), OutOfM
 
 /// Appends the title of the page of a trace.
 fn push_title<A: Allocator + Copy>(out: &mut String<A>, trace: &[u8]) -> Result<(), OutOfMemory>
-    ensures { OnOk result (string_bytes out.new
-        ≡ string_bytes out.old ++ html_bytes (title_html trace.now)) }
+    ensures { OnOk result (Appends out.old out.new (title_html trace.now)) }
 {
     push_start(out)?;
     push_markup(out, "Trace ")?;
@@ -48,8 +46,7 @@ fn push_counts<A: Allocator + Copy>(
     count: usize,
     took: u64,
 ) -> Result<(), OutOfMemory>
-    ensures { OnOk result (string_bytes out.new
-        ≡ string_bytes out.old ++ html_bytes (counts_html trace.now count took)) }
+    ensures { OnOk result (Appends out.old out.new (counts_html trace.now count took)) }
 {
     push_markup(out, "<p>")?;
     push_number(out, count as u64)?;
@@ -62,8 +59,7 @@ fn push_counts<A: Allocator + Copy>(
 
 /// Appends the axis of the bars: the time from the earliest start, at each quarter of the whole.
 fn push_axis<A: Allocator>(out: &mut String<A>, whole: u64) -> Result<(), OutOfMemory>
-    ensures { OnOk result (string_bytes out.new
-        ≡ string_bytes out.old ++ html_bytes (axis_html whole)) }
+    ensures { OnOk result (Appends out.old out.new (axis_html whole)) }
 {
     push_markup(out, "<div class='axis'><span>0</span><span>")?;
     push_duration(out, whole / 4)?;
@@ -83,8 +79,7 @@ pub(crate) fn push_head<A: Allocator + Copy>(
     count: usize,
     frame: Frame,
 ) -> Result<(), OutOfMemory>
-    ensures { OnOk result (string_bytes out.new
-        ≡ string_bytes out.old ++ html_bytes (head_html trace count frame)) }
+    ensures { OnOk result (Appends out.old out.new (head_html trace count frame)) }
 {
     let digits = trace.to_be_bytes();
     let whole = frame.until.saturating_sub(frame.from);
@@ -96,8 +91,7 @@ pub(crate) fn push_head<A: Allocator + Copy>(
 
 /// Appends what comes after the rows of a trace.
 pub(crate) fn push_end<A: Allocator>(out: &mut String<A>) -> Result<(), OutOfMemory>
-    ensures { OnOk result (string_bytes out.new
-        ≡ string_bytes out.old ++ html_bytes end_html) }
+    ensures { OnOk result (Appends out.old out.new end_html) }
 {
     push_markup(out, "</ol></main></html>")
 }

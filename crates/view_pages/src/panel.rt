@@ -1,18 +1,17 @@
 //! The panel of a span.
 
-ghost use Rattle.std.specs.Prelude.{◌≡◌, ◌++◌, OnOk, string_bytes};
-ghost use Rattle.view_pages.specs.Html.{each, html_bytes};
+ghost use Rattle.std.specs.Prelude.{OnOk};
+ghost use Rattle.view_pages.specs.Html.{Appends, each};
 ghost use Rattle.view_pages.specs.Panels.{attributes_html, both_html, context_html, dropped_html};
 ghost use Rattle.view_pages.specs.Panels.{event_html, event_name_html, events_html, facts_html};
-ghost use Rattle.view_pages.specs.Panels.{flags_html, ids_html, instant_html, kind_html};
-ghost use Rattle.view_pages.specs.Panels.{link_html, links_html, message_html, offset_html};
-ghost use Rattle.view_pages.specs.Panels.{panel_html, parent_html, parent_link_html, parts_html};
-ghost use Rattle.view_pages.specs.Panels.{place_html, resource_html, scope_html, state_html};
-ghost use Rattle.view_pages.specs.Panels.{status_html, times_html, trace_state_html, url_html};
-ghost use Rattle.view_pages.specs.Panels.{version_html};
+ghost use Rattle.view_pages.specs.Panels.{flags_html, ids_html, instant_html, kind_html, link_html};
+ghost use Rattle.view_pages.specs.Panels.{links_html, offset_html, panel_html, parent_html};
+ghost use Rattle.view_pages.specs.Panels.{parent_link_html, parts_html, place_html, resource_html};
+ghost use Rattle.view_pages.specs.Panels.{scope_html, state_html, status_html, times_html};
+ghost use Rattle.view_pages.specs.Panels.{url_html, version_html};
 
 use crate::date::push_moment;
-use crate::html::{push_digits, push_markup, push_number, push_signed, push_text};
+use crate::html::{push_after, push_digits, push_markup, push_number, push_signed, push_text};
 use crate::times::push_duration;
 use crate::value::push_list;
 use otlp_ids::OutOfMemory;
@@ -24,8 +23,7 @@ use trace_tree::Place;
 /// Appends how many parts the sender dropped, unless it is none.
 #[tactic(auto, unfolding(crate::specs::Html::html_bytes, crate::specs::Panels::dropped_html))]
 fn push_dropped<A: Allocator>(out: &mut String<A>, count: u32) -> Result<(), OutOfMemory>
-    ensures { OnOk result (string_bytes out.new
-        ≡ string_bytes out.old ++ html_bytes (dropped_html count)) }
+    ensures { OnOk result (Appends out.old out.new (dropped_html count)) }
 {
     if count == 0 {
         return Ok(());
@@ -42,8 +40,7 @@ fn push_attributes<A: Allocator + Copy>(
     pairs: &[(String<A>, AnyValue<A>)],
     dropped: u32,
 ) -> Result<(), OutOfMemory>
-    ensures { OnOk result (string_bytes out.new
-        ≡ string_bytes out.old ++ html_bytes (attributes_html title.now pairs.now dropped)) }
+    ensures { OnOk result (Appends out.old out.new (attributes_html title.now pairs.now dropped)) }
 {
     push_markup(out, "<h4>")?;
     push_markup(out, title)?;
@@ -55,8 +52,7 @@ fn push_attributes<A: Allocator + Copy>(
 /// Appends how long after the start of its span a time is, or before.
 #[tactic(auto, unfolding(crate::specs::Html::html_bytes, crate::specs::Panels::offset_html))]
 fn push_offset<A: Allocator>(out: &mut String<A>, start: u64, time: u64) -> Result<(), OutOfMemory>
-    ensures { OnOk result (string_bytes out.new
-        ≡ string_bytes out.old ++ html_bytes (offset_html start time)) }
+    ensures { OnOk result (Appends out.old out.new (offset_html start time)) }
 {
     if time < start {
         push_markup(out, "-")?;
@@ -73,8 +69,7 @@ fn push_event_name<A: Allocator>(
     start: u64,
     event: &Event<A>,
 ) -> Result<(), OutOfMemory>
-    ensures { OnOk result (string_bytes out.new
-        ≡ string_bytes out.old ++ html_bytes (event_name_html start event.now)) }
+    ensures { OnOk result (Appends out.old out.new (event_name_html start event.now)) }
 {
     push_markup(out, "<h5>")?;
     push_text(out, &event.name)?;
@@ -89,8 +84,7 @@ fn push_event<A: Allocator + Copy>(
     start: u64,
     event: &Event<A>,
 ) -> Result<(), OutOfMemory>
-    ensures { OnOk result (string_bytes out.new
-        ≡ string_bytes out.old ++ html_bytes (event_html start event.now)) }
+    ensures { OnOk result (Appends out.old out.new (event_html start event.now)) }
 {
     push_event_name(out, start, event)?;
     push_dropped(out, event.dropped_attributes_count)?;
@@ -105,8 +99,7 @@ fn push_each_event<A: Allocator + Copy>(
     start: u64,
     events: &[Event<A>],
 ) -> Result<(), OutOfMemory>
-    ensures { OnOk result (string_bytes out.new
-        ≡ string_bytes out.old ++ html_bytes (each (event_html start) events.now)) }
+    ensures { OnOk result (Appends out.old out.new (each (event_html start) events.now)) }
 {
     for event in events {
         push_event(out, start, event)?;
@@ -116,8 +109,7 @@ fn push_each_event<A: Allocator + Copy>(
 
 /// Appends the events of a span under their heading.
 fn push_events<A: Allocator + Copy>(out: &mut String<A>, span: &Span<A>) -> Result<(), OutOfMemory>
-    ensures { OnOk result (string_bytes out.new
-        ≡ string_bytes out.old ++ html_bytes (events_html span.now)) }
+    ensures { OnOk result (Appends out.old out.new (events_html span.now)) }
 {
     push_markup(out, "<h4>Events")?;
     push_dropped(out, span.dropped_events_count)?;
@@ -131,8 +123,7 @@ fn push_place<A: Allocator + Copy>(
     trace_id: &[u8],
     span_id: &[u8],
 ) -> Result<(), OutOfMemory>
-    ensures { OnOk result (string_bytes out.new
-        ≡ string_bytes out.old ++ html_bytes (place_html trace_id.now span_id.now)) }
+    ensures { OnOk result (Appends out.old out.new (place_html trace_id.now span_id.now)) }
 {
     push_markup(out, "<a href='/trace/")?;
     push_digits(out, trace_id)?;
@@ -149,8 +140,7 @@ fn push_both<A: Allocator + Copy>(
     trace_id: &[u8],
     span_id: &[u8],
 ) -> Result<(), OutOfMemory>
-    ensures { OnOk result (string_bytes out.new
-        ≡ string_bytes out.old ++ html_bytes (both_html trace_id.now span_id.now)) }
+    ensures { OnOk result (Appends out.old out.new (both_html trace_id.now span_id.now)) }
 {
     push_digits(out, trace_id)?;
     push_markup(out, " ")?;
@@ -159,8 +149,7 @@ fn push_both<A: Allocator + Copy>(
 
 /// Appends a link, and its attributes.
 fn push_link<A: Allocator + Copy>(out: &mut String<A>, link: &Link<A>) -> Result<(), OutOfMemory>
-    ensures { OnOk result (string_bytes out.new
-        ≡ string_bytes out.old ++ html_bytes (link_html link.now)) }
+    ensures { OnOk result (Appends out.old out.new (link_html link.now)) }
 {
     push_markup(out, "<h5>")?;
     push_place(out, &link.trace_id, &link.span_id)?;
@@ -172,23 +161,9 @@ fn push_link<A: Allocator + Copy>(out: &mut String<A>, link: &Link<A>) -> Result
 
 /// Appends flags by eight hexadecimal digits.
 fn push_flags<A: Allocator + Copy>(out: &mut String<A>, flags: u32) -> Result<(), OutOfMemory>
-    ensures { OnOk result (string_bytes out.new
-        ≡ string_bytes out.old ++ html_bytes (flags_html flags)) }
+    ensures { OnOk result (Appends out.old out.new (flags_html flags)) }
 {
     push_digits(out, &flags.to_be_bytes())
-}
-
-/// Appends a trace state, unless it is empty.
-#[tactic(auto, unfolding(crate::specs::Html::html_bytes, crate::specs::Panels::trace_state_html))]
-fn push_trace_state<A: Allocator>(out: &mut String<A>, trace_state: &str) -> Result<(), OutOfMemory>
-    ensures { OnOk result (string_bytes out.new
-        ≡ string_bytes out.old ++ html_bytes (trace_state_html trace_state.now)) }
-{
-    if trace_state.len() == 0 {
-        return Ok(());
-    }
-    push_markup(out, "<dt>trace state<dd>")?;
-    push_text(out, trace_state)
 }
 
 /// Appends the trace state and the flags of a span or a link.
@@ -197,10 +172,9 @@ fn push_context<A: Allocator + Copy>(
     trace_state: &str,
     flags: u32,
 ) -> Result<(), OutOfMemory>
-    ensures { OnOk result (string_bytes out.new
-        ≡ string_bytes out.old ++ html_bytes (context_html trace_state.now flags)) }
+    ensures { OnOk result (Appends out.old out.new (context_html trace_state.now flags)) }
 {
-    push_trace_state(out, trace_state)?;
+    push_after(out, "<dt>trace state<dd>", trace_state)?;
     push_markup(out, "<dt>flags<dd>")?;
     push_flags(out, flags)?;
     push_markup(out, "</dl>")
@@ -212,8 +186,7 @@ fn push_each_link<A: Allocator + Copy>(
     out: &mut String<A>,
     links: &[Link<A>],
 ) -> Result<(), OutOfMemory>
-    ensures { OnOk result (string_bytes out.new
-        ≡ string_bytes out.old ++ html_bytes (each link_html links.now)) }
+    ensures { OnOk result (Appends out.old out.new (each link_html links.now)) }
 {
     for link in links {
         push_link(out, link)?;
@@ -223,8 +196,7 @@ fn push_each_link<A: Allocator + Copy>(
 
 /// Appends the links of a span under their heading.
 fn push_links<A: Allocator + Copy>(out: &mut String<A>, span: &Span<A>) -> Result<(), OutOfMemory>
-    ensures { OnOk result (string_bytes out.new
-        ≡ string_bytes out.old ++ html_bytes (links_html span.now)) }
+    ensures { OnOk result (Appends out.old out.new (links_html span.now)) }
 {
     push_markup(out, "<h4>Links")?;
     push_dropped(out, span.dropped_links_count)?;
@@ -234,8 +206,7 @@ fn push_links<A: Allocator + Copy>(out: &mut String<A>, span: &Span<A>) -> Resul
 
 /// Appends a schema URL.
 fn push_schema_url<A: Allocator>(out: &mut String<A>, url: &str) -> Result<(), OutOfMemory>
-    ensures { OnOk result (string_bytes out.new
-        ≡ string_bytes out.old ++ html_bytes (url_html url.now)) }
+    ensures { OnOk result (Appends out.old out.new (url_html url.now)) }
 {
     push_markup(out, "<p>")?;
     push_text(out, url)?;
@@ -247,8 +218,7 @@ fn push_resource<A: Allocator + Copy>(
     out: &mut String<A>,
     shared: &ViewResource<A>,
 ) -> Result<(), OutOfMemory>
-    ensures { OnOk result (string_bytes out.new
-        ≡ string_bytes out.old ++ html_bytes (resource_html shared.now)) }
+    ensures { OnOk result (Appends out.old out.new (resource_html shared.now)) }
 {
     let resource = &shared.resource;
     let dropped = resource.dropped_attributes_count;
@@ -262,8 +232,7 @@ fn push_version<A: Allocator>(
     name: &str,
     version: &str,
 ) -> Result<(), OutOfMemory>
-    ensures { OnOk result (string_bytes out.new
-        ≡ string_bytes out.old ++ html_bytes (version_html name.now version.now)) }
+    ensures { OnOk result (Appends out.old out.new (version_html name.now version.now)) }
 {
     push_markup(out, "<p>")?;
     push_text(out, name)?;
@@ -277,8 +246,7 @@ fn push_scope<A: Allocator + Copy>(
     out: &mut String<A>,
     shared: &ViewScope<A>,
 ) -> Result<(), OutOfMemory>
-    ensures { OnOk result (string_bytes out.new
-        ≡ string_bytes out.old ++ html_bytes (scope_html shared.now)) }
+    ensures { OnOk result (Appends out.old out.new (scope_html shared.now)) }
 {
     let scope = &shared.scope;
     push_attributes(
@@ -294,8 +262,7 @@ fn push_scope<A: Allocator + Copy>(
 /// Appends the kind of a span.
 #[tactic(auto, unfolding(crate::specs::Html::html_bytes, crate::specs::Panels::kind_html))]
 fn push_kind<A: Allocator>(out: &mut String<A>, span: &Span<A>) -> Result<(), OutOfMemory>
-    ensures { OnOk result (string_bytes out.new
-        ≡ string_bytes out.old ++ html_bytes (kind_html span.now.kind)) }
+    ensures { OnOk result (Appends out.old out.new (kind_html span.now.kind)) }
 {
     match span.kind {
         0 => push_markup(out, "unspecified"),
@@ -311,8 +278,7 @@ fn push_kind<A: Allocator>(out: &mut String<A>, span: &Span<A>) -> Result<(), Ou
 /// Appends the code of a status.
 #[tactic(auto, unfolding(crate::specs::Html::html_bytes, crate::specs::Panels::status_html))]
 fn push_status<A: Allocator>(out: &mut String<A>, status: &Status<A>) -> Result<(), OutOfMemory>
-    ensures { OnOk result (string_bytes out.new
-        ≡ string_bytes out.old ++ html_bytes (status_html status.now.code)) }
+    ensures { OnOk result (Appends out.old out.new (status_html status.now.code)) }
 {
     match status.code {
         0 => push_markup(out, "unset"),
@@ -324,8 +290,7 @@ fn push_status<A: Allocator>(out: &mut String<A>, status: &Status<A>) -> Result<
 
 /// Appends the identifier of a parent, as a link to the parent's row.
 fn push_parent_link<A: Allocator + Copy>(out: &mut String<A>, id: &[u8]) -> Result<(), OutOfMemory>
-    ensures { OnOk result (string_bytes out.new
-        ≡ string_bytes out.old ++ html_bytes (parent_link_html id.now)) }
+    ensures { OnOk result (Appends out.old out.new (parent_link_html id.now)) }
 {
     push_markup(out, "<dt>parent<dd><a href='#s-")?;
     push_digits(out, id)?;
@@ -342,8 +307,7 @@ fn push_parent<A: Allocator + Copy>(
     place: Place,
     id: &[u8],
 ) -> Result<(), OutOfMemory>
-    ensures { OnOk result (string_bytes out.new
-        ≡ string_bytes out.old ++ html_bytes (parent_html place id.now)) }
+    ensures { OnOk result (Appends out.old out.new (parent_html place id.now)) }
 {
     match place {
         Place::Root => Ok(()),
@@ -362,43 +326,27 @@ fn push_ids<A: Allocator + Copy>(
     span: &Span<A>,
     place: Place,
 ) -> Result<(), OutOfMemory>
-    ensures { OnOk result (string_bytes out.new
-        ≡ string_bytes out.old ++ html_bytes (ids_html span.now place)) }
+    ensures { OnOk result (Appends out.old out.new (ids_html span.now place)) }
 {
     push_markup(out, "<dl><dt>span<dd>")?;
     push_digits(out, &span.span_id)?;
     push_parent(out, place, &span.parent_span_id)
 }
 
-/// Appends what is said of a status, unless it is nothing.
-#[tactic(auto, unfolding(crate::specs::Html::html_bytes, crate::specs::Panels::message_html))]
-fn push_message<A: Allocator>(out: &mut String<A>, message: &str) -> Result<(), OutOfMemory>
-    ensures { OnOk result (string_bytes out.new
-        ≡ string_bytes out.old ++ html_bytes (message_html message.now)) }
-{
-    if message.len() == 0 {
-        return Ok(());
-    }
-    push_markup(out, ": ")?;
-    push_text(out, message)
-}
-
 /// Appends the kind of a span, its status and what is said of that.
 fn push_state<A: Allocator>(out: &mut String<A>, span: &Span<A>) -> Result<(), OutOfMemory>
-    ensures { OnOk result (string_bytes out.new
-        ≡ string_bytes out.old ++ html_bytes (state_html span.now)) }
+    ensures { OnOk result (Appends out.old out.new (state_html span.now)) }
 {
     push_markup(out, "<dt>kind<dd>")?;
     push_kind(out, span)?;
     push_markup(out, "<dt>status<dd>")?;
     push_status(out, &span.status)?;
-    push_message(out, &span.status.message)
+    push_after(out, ": ", &span.status.message)
 }
 
 /// Appends a date and a time in UTC, and the nanoseconds since 1970.
 fn push_instant<A: Allocator>(out: &mut String<A>, nanos: u64) -> Result<(), OutOfMemory>
-    ensures { OnOk result (string_bytes out.new
-        ≡ string_bytes out.old ++ html_bytes (instant_html nanos)) }
+    ensures { OnOk result (Appends out.old out.new (instant_html nanos)) }
 {
     push_moment(out, nanos)?;
     push_markup(out, " <small>")?;
@@ -408,8 +356,7 @@ fn push_instant<A: Allocator>(out: &mut String<A>, nanos: u64) -> Result<(), Out
 
 /// Appends when a span started and ended, its trace state and its flags.
 fn push_times<A: Allocator + Copy>(out: &mut String<A>, span: &Span<A>) -> Result<(), OutOfMemory>
-    ensures { OnOk result (string_bytes out.new
-        ≡ string_bytes out.old ++ html_bytes (times_html span.now)) }
+    ensures { OnOk result (Appends out.old out.new (times_html span.now)) }
 {
     push_markup(out, "<dt>start<dd>")?;
     push_instant(out, span.start_time_unix_nano)?;
@@ -424,8 +371,7 @@ fn push_facts<A: Allocator + Copy>(
     span: &Span<A>,
     place: Place,
 ) -> Result<(), OutOfMemory>
-    ensures { OnOk result (string_bytes out.new
-        ≡ string_bytes out.old ++ html_bytes (facts_html span.now place)) }
+    ensures { OnOk result (Appends out.old out.new (facts_html span.now place)) }
 {
     push_ids(out, span, place)?;
     push_state(out, span)?;
@@ -434,8 +380,7 @@ fn push_facts<A: Allocator + Copy>(
 
 /// Appends the attributes, the events and the links of a span.
 fn push_parts<A: Allocator + Copy>(out: &mut String<A>, span: &Span<A>) -> Result<(), OutOfMemory>
-    ensures { OnOk result (string_bytes out.new
-        ≡ string_bytes out.old ++ html_bytes (parts_html span.now)) }
+    ensures { OnOk result (Appends out.old out.new (parts_html span.now)) }
 {
     push_attributes(
         out,
@@ -453,8 +398,7 @@ pub(crate) fn push_panel<A: Allocator + Copy>(
     span: &ViewSpan<A>,
     place: Place,
 ) -> Result<(), OutOfMemory>
-    ensures { OnOk result (string_bytes out.new
-        ≡ string_bytes out.old ++ html_bytes (panel_html span.now place)) }
+    ensures { OnOk result (Appends out.old out.new (panel_html span.now place)) }
 {
     push_facts(out, &span.span, place)?;
     push_parts(out, &span.span)?;

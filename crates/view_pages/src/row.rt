@@ -1,23 +1,23 @@
 //! The rows of the page of a trace.
 
-ghost use Rattle.std.specs.Prelude.{◌≡◌, ◌++◌, OnOk, option_map, slice_get, string_bytes};
+ghost use Rattle.std.specs.Prelude.{◌≡◌, OnOk, option_map, slice_get};
 ghost use Rattle.std.specs.Arc.{arc_value};
-ghost use Rattle.view_pages.specs.Html.{each, html_bytes};
+ghost use Rattle.view_pages.specs.Html.{Appends, each};
 ghost use Rattle.view_pages.specs.Pieces.{line_html};
-ghost use Rattle.view_pages.specs.Rows.{bad_html, bar_html, class_html, depth_html, id_html};
-ghost use Rattle.view_pages.specs.Rows.{is_cycle, is_orphan, label_html, level_of, name_html};
-ghost use Rattle.view_pages.specs.Rows.{remark_html, remarks_html, span_html, span_rest};
-ghost use Rattle.view_pages.specs.Rows.{tag_html, tick_html, time_html, width_of};
+ghost use Rattle.view_pages.specs.Rows.{bar_html, class_html, depth_html, id_html, is_cycle};
+ghost use Rattle.view_pages.specs.Rows.{is_orphan, label_html, level_of, name_html, remark_html};
+ghost use Rattle.view_pages.specs.Rows.{remarks_html, span_html, span_rest, tag_html, tick_html};
+ghost use Rattle.view_pages.specs.Rows.{time_html};
 
-use crate::html::{push_digits, push_markup, push_number, push_text};
+use crate::html::{push_digits, push_if, push_markup, push_number, push_text};
 use crate::panel::push_panel;
-use crate::times::{push_duration, share_of};
+use crate::times::push_duration;
 use otlp_ids::OutOfMemory;
 use otlp_read::{Event, Span};
 use std::alloc::Allocator;
 use std::sync::Arc;
-use trace_lines::{Line, end_of, ends_early, is_error, service_of, time_of};
-use trace_store::ViewSpan;
+use trace_lines::{Line, ends_early, share_of, time_of, width_of};
+use trace_store::{ViewSpan, is_error, service_of};
 use trace_tree::{Frame, Place};
 
 /// Appends words where something holds.
@@ -27,8 +27,7 @@ fn push_remark<A: Allocator>(
     holds: bool,
     words: &str,
 ) -> Result<(), OutOfMemory>
-    ensures { OnOk result (string_bytes out.new
-        ≡ string_bytes out.old ++ html_bytes (remark_html holds words.now)) }
+    ensures { OnOk result (Appends out.old out.new (remark_html holds words.now)) }
 {
     if !holds {
         return Ok(());
@@ -65,27 +64,13 @@ fn push_remarks<A: Allocator>(
     place: Place,
     is_repeated: bool,
 ) -> Result<(), OutOfMemory>
-    ensures { OnOk result (string_bytes out.new
-        ≡ string_bytes out.old ++ html_bytes (remarks_html span.now place is_repeated)) }
+    ensures { OnOk result (Appends out.old out.new (remarks_html span.now place is_repeated)) }
 {
     push_remark(out, is_error(span), "error")?;
     push_remark(out, is_orphan(place), "parent not received")?;
     push_remark(out, is_cycle(place), "cycle")?;
     push_remark(out, ends_early(span), "ends before it starts")?;
     push_remark(out, is_repeated, "identifier is repeated")
-}
-
-/// Appends a mark of a row with an error.
-#[tactic(auto, unfolding(crate::specs::Html::html_bytes, crate::specs::Rows::bad_html))]
-fn push_bad<A: Allocator>(out: &mut String<A>, bad: bool) -> Result<(), OutOfMemory>
-    ensures { OnOk result (string_bytes out.new
-        ≡ string_bytes out.old ++ html_bytes (bad_html bad)) }
-{
-    if bad {
-        push_markup(out, " bad")
-    } else {
-        Ok(())
-    }
 }
 
 /// Appends the identifier by which links come to the row, if its span is the first that has it.
@@ -95,8 +80,7 @@ fn push_id<A: Allocator + Copy>(
     is_first: bool,
     id: &[u8],
 ) -> Result<(), OutOfMemory>
-    ensures { OnOk result (string_bytes out.new
-        ≡ string_bytes out.old ++ html_bytes (id_html is_first id.now)) }
+    ensures { OnOk result (Appends out.old out.new (id_html is_first id.now)) }
 {
     if !is_first {
         return Ok(());
@@ -111,12 +95,11 @@ fn push_class<A: Allocator + Copy>(
     span: &ViewSpan<A>,
     line: &Line,
 ) -> Result<(), OutOfMemory>
-    ensures { OnOk result (string_bytes out.new
-        ≡ string_bytes out.old ++ html_bytes (class_html span.now line.now)) }
+    ensures { OnOk result (Appends out.old out.new (class_html span.now line.now)) }
 {
     push_markup(out, " class='row c")?;
     push_number(out, line.colour)?;
-    push_bad(out, is_error(&span.span))?;
+    push_if(out, is_error(&span.span), " bad")?;
     push_id(out, line.mark.is_first, &span.span.span_id)
 }
 
@@ -129,21 +112,12 @@ fn level_of(depth: usize) -> u64
 
 /// Appends how deep a row is.
 fn push_depth<A: Allocator>(out: &mut String<A>, depth: usize) -> Result<(), OutOfMemory>
-    ensures { OnOk result (string_bytes out.new
-        ≡ string_bytes out.old ++ html_bytes (depth_html depth)) }
+    ensures { OnOk result (Appends out.old out.new (depth_html depth)) }
 {
     push_markup(out, "' aria-level='")?;
     push_number(out, level_of(depth))?;
     push_markup(out, "' style='--d:")?;
     push_number(out, depth as u64)
-}
-
-/// How wide the bar of a span is, in ten thousandths of the time of its trace.
-fn width_of<A: Allocator>(span: &Span<A>, frame: Frame) -> u64
-    ensures { result ≡ width_of span.now frame }
-{
-    let start = share_of(frame, span.start_time_unix_nano);
-    share_of(frame, end_of(span)).saturating_sub(start)
 }
 
 /// Appends where the bar of a span begins, and how wide it is.
@@ -152,8 +126,7 @@ fn push_bar<A: Allocator>(
     span: &Span<A>,
     frame: Frame,
 ) -> Result<(), OutOfMemory>
-    ensures { OnOk result (string_bytes out.new
-        ≡ string_bytes out.old ++ html_bytes (bar_html span.now frame)) }
+    ensures { OnOk result (Appends out.old out.new (bar_html span.now frame)) }
 {
     push_markup(out, ";--s:")?;
     push_number(out, share_of(frame, span.start_time_unix_nano))?;
@@ -165,8 +138,7 @@ fn push_bar<A: Allocator>(
 /// Appends the name of a span, or that it has none.
 #[tactic(auto, unfolding(crate::specs::Html::html_bytes, crate::specs::Rows::name_html))]
 fn push_name<A: Allocator>(out: &mut String<A>, name: &str) -> Result<(), OutOfMemory>
-    ensures { OnOk result (string_bytes out.new
-        ≡ string_bytes out.old ++ html_bytes (name_html name.now)) }
+    ensures { OnOk result (Appends out.old out.new (name_html name.now)) }
 {
     if name.len() == 0 {
         return push_markup(out, "<b class='blank'>(no name)</b>");
@@ -183,8 +155,7 @@ fn push_label<A: Allocator>(
     place: Place,
     is_repeated: bool,
 ) -> Result<(), OutOfMemory>
-    ensures { OnOk result (string_bytes out.new
-        ≡ string_bytes out.old ++ html_bytes (label_html span.now place is_repeated)) }
+    ensures { OnOk result (Appends out.old out.new (label_html span.now place is_repeated)) }
 {
     push_markup(out, "<details><summary><span class='label'>")?;
     push_name(out, &span.span.name)?;
@@ -200,8 +171,7 @@ fn push_tick<A: Allocator>(
     frame: Frame,
     event: &Event<A>,
 ) -> Result<(), OutOfMemory>
-    ensures { OnOk result (string_bytes out.new
-        ≡ string_bytes out.old ++ html_bytes (tick_html frame event.now)) }
+    ensures { OnOk result (Appends out.old out.new (tick_html frame event.now)) }
 {
     push_markup(out, "<i class='tick' style='--t:")?;
     push_number(out, share_of(frame, event.time_unix_nano))?;
@@ -215,8 +185,7 @@ fn push_ticks<A: Allocator>(
     frame: Frame,
     events: &[Event<A>],
 ) -> Result<(), OutOfMemory>
-    ensures { OnOk result (string_bytes out.new
-        ≡ string_bytes out.old ++ html_bytes (each (tick_html frame) events.now)) }
+    ensures { OnOk result (Appends out.old out.new (each (tick_html frame) events.now)) }
 {
     for event in events {
         push_tick(out, frame, event)?;
@@ -230,8 +199,7 @@ fn push_time<A: Allocator>(
     span: &Span<A>,
     frame: Frame,
 ) -> Result<(), OutOfMemory>
-    ensures { OnOk result (string_bytes out.new
-        ≡ string_bytes out.old ++ html_bytes (time_html span.now frame)) }
+    ensures { OnOk result (Appends out.old out.new (time_html span.now frame)) }
 {
     push_markup(out, "</span><span class='time'><i class='bar'></i>")?;
     push_ticks(out, frame, &span.events)?;
@@ -247,8 +215,7 @@ fn push_tag<A: Allocator + Copy>(
     line: &Line,
     frame: Frame,
 ) -> Result<(), OutOfMemory>
-    ensures { OnOk result (string_bytes out.new
-        ≡ string_bytes out.old ++ html_bytes (tag_html span.now line.now frame)) }
+    ensures { OnOk result (Appends out.old out.new (tag_html span.now line.now frame)) }
 {
     push_class(out, span, line)?;
     push_depth(out, line.row.depth)?;
@@ -262,8 +229,7 @@ fn push_span<A: Allocator + Copy>(
     line: &Line,
     frame: Frame,
 ) -> Result<(), OutOfMemory>
-    ensures { OnOk result (string_bytes out.new
-        ≡ string_bytes out.old ++ html_bytes (span_html span.now line.now frame)) }
+    ensures { OnOk result (Appends out.old out.new (span_html span.now line.now frame)) }
 {
     push_tag(out, span, line, frame)?;
     push_label(out, span, line.row.place, line.mark.is_repeated)?;
@@ -280,8 +246,9 @@ fn push_rest<A: Allocator + Copy>(
     line: &Line,
     frame: Frame,
 ) -> Result<(), OutOfMemory>
-    ensures { OnOk result (string_bytes out.new ≡ string_bytes out.old ++ html_bytes
-        (span_rest (option_map arc_value (slice_get spans.now line.now.row.index)) line.now frame)) }
+    ensures { OnOk result (Appends out.old out.new
+        (span_rest (option_map arc_value (slice_get spans.now line.now.row.index))
+        line.now frame)) }
 {
     match spans.get(line.row.index) {
         Some(span) => push_span(out, span, line, frame),
@@ -296,8 +263,7 @@ pub(crate) fn push_line<A: Allocator + Copy>(
     line: &Line,
     frame: Frame,
 ) -> Result<(), OutOfMemory>
-    ensures { OnOk result (string_bytes out.new
-        ≡ string_bytes out.old ++ html_bytes (line_html spans.now frame line.now)) }
+    ensures { OnOk result (Appends out.old out.new (line_html spans.now frame line.now)) }
 {
     push_markup(out, "<li data-row='")?;
     push_number(out, line.row.index as u64)?;

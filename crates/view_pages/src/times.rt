@@ -1,28 +1,12 @@
-//! When spans are, within the time of their trace.
+//! How long something took, in words.
 
-ghost use Rattle.std.specs.Prelude.{◌≡◌, ◌≤◌, ◌++◌, OnOk, string_bytes};
-ghost use Rattle.view_pages.specs.Html.{html_bytes};
-ghost use Rattle.view_pages.specs.Times.{duration, scaled, share_of};
+ghost use Rattle.std.specs.Prelude.{◌≤◌, OnOk};
+ghost use Rattle.view_pages.specs.Html.{Appends};
+ghost use Rattle.view_pages.specs.Times.{duration, scaled};
 
 use crate::html::{push_markup, push_number};
 use otlp_ids::OutOfMemory;
 use std::alloc::Allocator;
-use trace_tree::Frame;
-
-/// How long after the start of the trace a time is, in ten thousandths of the time that it takes:
-/// 0 where it is before, and 10,000 where it is after the end.
-#[tactic(auto, unfolding(crate::specs::Times::share_of))]
-pub(crate) fn share_of(frame: Frame, time: u64) -> u64
-    ensures value { result ≡ share_of frame time }
-    ensures bound { result ≤ 10000 }
-{
-    let whole = frame.until.saturating_sub(frame.from);
-    if whole == 0 {
-        return 0;
-    }
-    let share = u128::from(time.saturating_sub(frame.from)) * 10_000 / u128::from(whole);
-    share.min(10_000) as u64
-}
 
 /// Appends a time in a unit of so many nanoseconds.
 fn push_scaled<A: Allocator>(
@@ -32,8 +16,7 @@ fn push_scaled<A: Allocator>(
     name: &str,
 ) -> Result<(), OutOfMemory>
     requires { 100 ≤ unit }
-    ensures { OnOk result (string_bytes out.new
-        ≡ string_bytes out.old ++ html_bytes (scaled nanos unit name.now)) }
+    ensures { OnOk result (Appends out.old out.new (scaled nanos unit name.now)) }
 {
     let whole = nanos / unit;
     let tenth = nanos % unit / (unit / 10);
@@ -52,8 +35,7 @@ pub(crate) fn push_duration<A: Allocator>(
     out: &mut String<A>,
     nanos: u64,
 ) -> Result<(), OutOfMemory>
-    ensures { OnOk result (string_bytes out.new
-        ≡ string_bytes out.old ++ html_bytes (duration nanos)) }
+    ensures { OnOk result (Appends out.old out.new (duration nanos)) }
 {
     if nanos < 1_000 {
         push_number(out, nanos)?;

@@ -1,7 +1,7 @@
 //! Values of attributes.
 
-ghost use Rattle.std.specs.Prelude.{◌≡◌, ◌++◌, OnOk, codes, string_bytes};
-ghost use Rattle.view_pages.specs.Html.{Markup, Signed, Text, ◌▹◌, each, html_bytes};
+ghost use Rattle.std.specs.Prelude.{OnOk, codes};
+ghost use Rattle.view_pages.specs.Html.{Appends, Markup, Signed, Text, ◌▹◌, each};
 ghost use Rattle.view_pages.specs.Values.{any_html, bytes_html, double_html, item_html, pair_html};
 
 use crate::html::{push_digits, push_markup, push_text};
@@ -16,8 +16,7 @@ pub(crate) fn push_value<A: Allocator + Copy>(
     out: &mut String<A>,
     value: &AnyValue<A>,
 ) -> Result<(), OutOfMemory>
-    ensures { OnOk result (string_bytes out.new
-        ≡ string_bytes out.old ++ html_bytes (any_html value.now)) }
+    ensures { OnOk result (Appends out.old out.new (any_html value.now)) }
 {
     match value {
         AnyValue::Empty => push_markup(out, "<i>no value</i>"),
@@ -35,8 +34,7 @@ pub(crate) fn push_value<A: Allocator + Copy>(
 /// Appends a whole number.
 #[tactic(auto, unfolding(crate::specs::Html::html_bytes))]
 fn push_int<A: Allocator>(out: &mut String<A>, number: &i64) -> Result<(), OutOfMemory>
-    ensures { OnOk result (string_bytes out.new
-        ≡ string_bytes out.old ++ html_bytes (Signed number.now)) }
+    ensures { OnOk result (Appends out.old out.new (Signed number.now)) }
 {
     Ok(write!(out, "{number}")?)
 }
@@ -44,8 +42,7 @@ fn push_int<A: Allocator>(out: &mut String<A>, number: &i64) -> Result<(), OutOf
 /// Appends the number that a double is.
 #[tactic(auto, unfolding(crate::specs::Html::html_bytes))]
 fn push_double<A: Allocator>(out: &mut String<A>, bits: u64) -> Result<(), OutOfMemory>
-    ensures { OnOk result (string_bytes out.new
-        ≡ string_bytes out.old ++ html_bytes (double_html bits)) }
+    ensures { OnOk result (Appends out.old out.new (double_html bits)) }
 {
     Ok(write_double(out, bits)?)
 }
@@ -53,8 +50,7 @@ fn push_double<A: Allocator>(out: &mut String<A>, bits: u64) -> Result<(), OutOf
 /// Appends bytes.
 #[tactic(auto, unfolding(crate::specs::Html::html_bytes))]
 fn push_bytes<A: Allocator + Copy>(out: &mut String<A>, bytes: &[u8]) -> Result<(), OutOfMemory>
-    ensures { OnOk result (string_bytes out.new
-        ≡ string_bytes out.old ++ html_bytes (bytes_html bytes.now)) }
+    ensures { OnOk result (Appends out.old out.new (bytes_html bytes.now)) }
 {
     push_markup(out, "0x")?;
     push_digits(out, bytes)
@@ -67,7 +63,7 @@ fn push_array<A: Allocator + Copy>(
     out: &mut String<A>,
     values: &[AnyValue<A>],
 ) -> Result<(), OutOfMemory>
-    ensures { OnOk result (string_bytes out.new ≡ string_bytes out.old ++ html_bytes
+    ensures { OnOk result (Appends out.old out.new
         (Markup (codes "<ul>") ▹ each item_html values.now ▹ Markup (codes "</ul>"))) }
 {
     push_markup(out, "<ul>")?;
@@ -81,8 +77,8 @@ fn push_array<A: Allocator + Copy>(
 /// Appends a key.
 #[tactic(auto, unfolding(crate::specs::Html::html_bytes))]
 fn push_key<A: Allocator>(out: &mut String<A>, key: &str) -> Result<(), OutOfMemory>
-    ensures { OnOk result (string_bytes out.new ≡ string_bytes out.old ++ html_bytes
-        (Markup (codes "<dt>") ▹ Text key.now ▹ Markup (codes "<dd>"))) }
+    ensures { OnOk result
+        (Appends out.old out.new (Markup (codes "<dt>") ▹ Text key.now ▹ Markup (codes "<dd>"))) }
 {
     push_markup(out, "<dt>")?;
     push_text(out, key)?;
@@ -96,7 +92,7 @@ pub(crate) fn push_list<A: Allocator + Copy>(
     out: &mut String<A>,
     pairs: &[(String<A>, AnyValue<A>)],
 ) -> Result<(), OutOfMemory>
-    ensures { OnOk result (string_bytes out.new ≡ string_bytes out.old ++ html_bytes
+    ensures { OnOk result (Appends out.old out.new
         (Markup (codes "<dl>") ▹ each pair_html pairs.now ▹ Markup (codes "</dl>"))) }
 {
     push_markup(out, "<dl>")?;

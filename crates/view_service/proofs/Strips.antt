@@ -7,9 +7,10 @@ use Rattle.std.specs.Str.Pattern.{FindsTextPrefix, FindsTextSuffix, StripsPrefix
 pub left_between : (front end path rest left digits : List ℕ)
     → StripsPrefix (FindsTextPrefix front) path rest → StripsSuffix (FindsTextSuffix end) rest left
     → path ≡ front ++ (digits ++ end) → left ≡ digits
-left_between front end path rest left digits prefix suffix is =
-    let whole : path ≡ front ++ rest = prefix.1.1 ∙ ap (λ l. front ++ l) (sym prefix.2) in
+left_between front end path rest left digits (n, (n_is, begins, n_cuts), rest_is, n_fits)
+    (m, (m_is, ends, m_cuts), left_is, m_fits) is =
+    let whole : path ≡ front ++ rest = begins ∙ ap (λ l. front ++ l) (sym rest_is) in
     let same : rest ≡ digits ++ end =
     append_cancel_left front rest (digits ++ end) (sym whole ∙ is) in
-    let cut : rest ≡ left ++ end = suffix.1.1 ∙ ap (λ l. l ++ end) (sym suffix.2) in
+    let cut : rest ≡ left ++ end = ends ∙ ap (λ l. l ++ end) (sym left_is) in
     append_cancel_right left digits end (sym cut ∙ same)

@@ -4,8 +4,8 @@ use Rattle.std.specs.Prelude.{List, Option, Some, None, string_bytes}
 use Rattle.std.specs.List.{starts_with}
 use Rattle.std.specs.declared.sync.Arc.{Arc}
 use Rattle.std.specs.declared.alloc.Global.{Global}
-use Rattle.view_pages.specs.Lists.{has_service}
-use Rattle.view_pages.specs.declared.filter.Filter.{Filter}
+use Rattle.trace_lines.specs.Lists.{has_service}
+use Rattle.trace_lines.specs.declared.filter.Filter.{Filter}
 use Rattle.view_service.specs.declared.site_filter.SiteFilter.{SiteFilter}
 use Rattle.trace_store.specs.Digests.{TraceFacts}
 use Rattle.trace_store.specs.declared.span.ViewSpan.{ViewSpan}

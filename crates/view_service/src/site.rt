@@ -5,17 +5,17 @@ ghost use Rattle.trace_lines.specs.Texts.{DrawsText};
 ghost use Rattle.view_service.specs.Drawn.{DrawsJson, Draws, SiteWrites};
 
 use crate::counts::{answered_of, stats_of};
-use crate::lists::{lines_of, summaries_of};
+use crate::lists::summaries_of;
 use crate::page::SitePage;
 use crate::script::SCRIPT;
 use crate::site_filter::SiteFilter;
 use crate::{Asked, Counts, ListForm, Listed, Pages, Tallies, TraceForm};
 use std::alloc::{AllocError, Global};
 use std::sync::Arc;
-use trace_lines::TraceText;
+use trace_lines::{Filter, FilterFault, TraceText};
 use trace_store::{TraceDigest, ViewSpan};
 use view_json::{TraceJson, write_metrics, write_stats, write_traces};
-use view_pages::{Filter, FilterFault, STYLE, TracePage, write_list_page, write_notice_page};
+use view_pages::{STYLE, TracePage, write_list_page, write_notice_page};
 
 /// The pages of `view_pages`, and the answers for programs of `view_json`.
 #[derive(Clone, Copy, Debug)]
@@ -128,8 +128,7 @@ impl Pages<Arc<ViewSpan>, TraceDigest> for Site {
                 put(out, &text, written)
             }
             ListForm::Json => {
-                let lines = lines_of(self.alloc, &summaries)?;
-                let text = write_traces(self.alloc, &lines)?;
+                let text = write_traces(self.alloc, &summaries)?;
                 Ok(out.extend_from_slice(&text)?)
             }
         }

@@ -3,8 +3,8 @@
 use crate::TraceFilter;
 use std::collections::LinkedList;
 use std::sync::Arc;
+use trace_lines::{Filter, summary_of_digest};
 use trace_store::{TraceDigest, ViewSpan};
-use view_pages::{Filter, summary_of_digest};
 
 /// The filter of a query, over what a store keeps.
 #[derive(Drop)]

@@ -6,10 +6,9 @@ use std::alloc::{Allocator, Global};
 use std::sync::Arc;
 use std::test::Fail;
 use test_support::FailingAllocator;
+use trace_lines::{Filter, FilterFault, Summary, summary_of_digest};
 use trace_store::{Digest, TraceDigest, ViewSpan};
-use view_pages::{
-    Filter, FilterFault, STYLE, Summary, summary_of_digest, write_list_page, write_notice_page,
-};
+use view_pages::{STYLE, write_list_page, write_notice_page};
 
 /// A trace of three spans, of which one is an error, that took 1,500 ms.
 const ALL: [Made<'static>; 3] = [

@@ -1,7 +1,7 @@
 //! Memory that is refused: each call for memory once, while all others are served.
 use crate::tests::equal::assert_equal;
 use crate::tests::spans::full;
-use crate::tests::texts::{line, stats};
+use crate::tests::texts::{stats, summary};
 use crate::tests::traces::written;
 use std::alloc::{AllocError, Allocator};
 use std::test::Fail;
@@ -69,7 +69,7 @@ fn a_piece_that_was_refused_memory_is_the_next_one(rt: HostRuntime) -> Result<()
 
 /// Whether a list of traces is written.
 fn is_list_written<A: Allocator + Copy>(alloc: A) -> bool {
-    write_traces(alloc, &[line()]).is_ok()
+    write_traces(alloc, &[summary()]).is_ok()
 }
 
 #[test]

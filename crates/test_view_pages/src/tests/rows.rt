@@ -3,14 +3,15 @@ use crate::tests::equal::{assert_equal, assert_has, assert_lacks};
 use otlp_ids::OutOfMemory;
 use std::alloc::{Allocator, Global};
 use std::test::Fail;
-use view_pages::{Filter, Summary, write_list_page};
+use trace_lines::{Filter, Summary};
+use view_pages::write_list_page;
 
 /// What the list says of a trace with this root.
 fn summary<'a>(name: &'a str, service: &'a str, start: u64) -> Summary<'a> {
     Summary {
         trace: 7,
         start_time_unix_nano: start,
-        duration_nanos: 250,
+        end_time_unix_nano: start.saturating_add(250),
         name,
         service,
         span_count: 1,

@@ -7,8 +7,8 @@ use std::alloc::Global;
 use std::collections::LinkedList;
 use std::sync::Arc;
 use std::test::Fail;
+use trace_lines::Filter;
 use trace_store::{ViewResource, ViewSpan};
-use view_pages::Filter;
 
 /// A root.
 const ROOT: [Made<'static>; 1] = [Made {

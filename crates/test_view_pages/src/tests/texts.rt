@@ -2,7 +2,8 @@
 use crate::tests::equal::assert_equal;
 use std::alloc::{AllocError, Allocator, Global};
 use std::test::Fail;
-use view_json::{Answered, Stats, TraceLine, write_metrics, write_stats, write_traces};
+use trace_lines::Summary;
+use view_json::{Answered, Stats, write_metrics, write_stats, write_traces};
 
 /// What is counted.
 pub(crate) fn stats() -> Stats {
@@ -17,15 +18,15 @@ pub(crate) fn stats() -> Stats {
 }
 
 /// A trace of a list.
-pub(crate) fn line() -> TraceLine<'static> {
-    TraceLine {
+pub(crate) fn summary() -> Summary<'static> {
+    Summary {
         trace: 0x5b8e_fff7_9803_8103_d269_b633_813f_c60c,
         service: "my.service",
         name: "I'm a \"server\" span",
         start_time_unix_nano: 1_544_712_660_000_000_000,
         end_time_unix_nano: 1_544_712_661_000_000_000,
-        spans: 1,
-        errors: 0,
+        span_count: 1,
+        error_count: 0,
     }
 }
 
@@ -52,7 +53,7 @@ fn without_a_trace_that_was_evicted_none_is_named(rt: HostRuntime) -> Result<(),
 
 #[test]
 fn a_list_has_an_object_for_each_trace(rt: HostRuntime) -> Result<(), Fail> {
-    let text = write_traces(rt.alloc(), &[line()])?;
+    let text = write_traces(rt.alloc(), &[summary()])?;
     let wanted =
         r#"{"traces":[{"traceId":"5b8efff798038103d269b633813fc60c","service":"my.service","name":"I'm a \"server\" span","startTimeUnixNano":"1544712660000000000","endTimeUnixNano":"1544712661000000000","spans":1,"errors":0}]}"#;
     assert_equal(&rt, text.as_slice(), wanted.as_bytes());
@@ -71,17 +72,17 @@ fn repeated<A: Allocator>(alloc: A, text: &str, times: u64) -> Result<String<A>,
 /// The list of one trace, whose service and root have names of this number of characters.
 fn named(alloc: Global, character: &str, times: u64) -> Result<Vec<u8>, AllocError> {
     let name = repeated(alloc, character, times)?;
-    let plain = line();
-    let line = TraceLine {
+    let plain = summary();
+    let summary = Summary {
         trace: plain.trace,
         service: &name,
         name: &name,
         start_time_unix_nano: plain.start_time_unix_nano,
         end_time_unix_nano: plain.end_time_unix_nano,
-        spans: plain.spans,
-        errors: plain.errors,
+        span_count: plain.span_count,
+        error_count: plain.error_count,
     };
-    write_traces(alloc, &[line])
+    write_traces(alloc, &[summary])
 }
 
 /// What is written of such names.

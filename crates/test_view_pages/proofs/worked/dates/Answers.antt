@@ -1,7 +1,8 @@
 use Rattle.std.proofs.Common.{refl}
 use Rattle.std.specs.Fmt.{digits}
+use Rattle.trace_lines.specs.Dates.{month_from, year_from}
 use Rattle.view_pages.specs.Dates.{date_html, fraction_html, hour_html, moment_html, three_html}
-use Rattle.view_pages.specs.Dates.{two_html, year_from, month_from}
+use Rattle.view_pages.specs.Dates.{two_html}
 use Rattle.view_pages.specs.Html.{html_bytes}
 use Rattle.test_view_pages.proofs.worked.dates.Goals as goal
 

@@ -1,7 +1,7 @@
 use Rattle.std.proofs.Common.{refl}
 use Rattle.std.specs.Fmt.{digits}
-use Rattle.view_pages.specs.Html.{html_bytes}
-use Rattle.view_pages.specs.Rows.{bad_html, depth_html, id_html, remark_html}
+use Rattle.view_pages.specs.Html.{html_bytes, markup_if, text_after}
+use Rattle.view_pages.specs.Rows.{depth_html, id_html, remark_html}
 use Rattle.test_view_pages.proofs.worked.rows.Goals as goal
 
 pub returns-clause-top : goal.returns-clause-top
@@ -23,8 +23,12 @@ unfolding html_bytes remark_html digits
 returns-clause-no_remark c = refl
 
 pub returns-clause-bad : goal.returns-clause-bad
-unfolding html_bytes bad_html digits
+unfolding html_bytes markup_if digits
 returns-clause-bad c = refl
+
+pub returns-clause-no_query : goal.returns-clause-no_query
+unfolding html_bytes text_after
+returns-clause-no_query c = refl
 
 pub returns-clause-again : goal.returns-clause-again
 unfolding html_bytes id_html digits

@@ -1,6 +1,6 @@
 use Rattle.std.proofs.Common.{refl}
 use Rattle.trace_lines.specs.Services.{with_name}
-use Rattle.trace_lines.specs.Spans.{service_in}
+use Rattle.trace_store.specs.Facts.{service_in}
 use Rattle.test_view_pages.proofs.worked.services.Goals as goal
 
 pub returns-clause-names : goal.returns-clause-names

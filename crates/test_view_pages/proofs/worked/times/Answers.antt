@@ -1,7 +1,8 @@
 use Rattle.std.proofs.Common.{refl}
 use Rattle.std.specs.Fmt.{digits}
 use Rattle.view_pages.specs.Html.{html_bytes}
-use Rattle.view_pages.specs.Times.{duration, scaled, share_of}
+use Rattle.trace_lines.specs.Times.{share_of}
+use Rattle.view_pages.specs.Times.{duration, scaled}
 use Rattle.test_view_pages.proofs.worked.times.Goals as goal
 
 pub returns-clause-quarter : goal.returns-clause-quarter

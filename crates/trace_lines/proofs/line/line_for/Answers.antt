@@ -6,7 +6,7 @@ use Rattle.trace_store.specs.declared.span.ViewSpan.{ViewSpan}
 use Rattle.trace_lines.specs.Plans.{values}
 use Rattle.trace_lines.specs.Repeats.{mark_by, mark_of}
 use Rattle.trace_lines.specs.Services.{colour_at, colour_of, services_of}
-use Rattle.trace_lines.specs.Spans.{service_of}
+use Rattle.trace_store.specs.Facts.{service_of}
 use Rattle.trace_lines.proofs.Gathers.{line_is}
 use Rattle.trace_lines.proofs.Repeats.{mark_of_use}
 use Rattle.trace_lines.proofs.line.line_for.Goals as goal

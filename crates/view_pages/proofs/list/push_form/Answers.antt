@@ -8,4 +8,4 @@ returns g c =
     after _ _ _ _ _ _ c.in_ok-push_texts.ensures
     (after _ _ _ _ _ _ c.in_ok-push_number.ensures
     (after _ _ _ _ _ _ c.in_ok-push_markup.ensures
-    (after _ _ _ _ _ _ c.in_ok-push_checked.ensures c.push_markup-2.ensures)))
+    (after _ _ _ _ _ _ c.in_ok-push_if.ensures c.push_markup-2.ensures)))

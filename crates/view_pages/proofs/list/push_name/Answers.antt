@@ -8,6 +8,6 @@ unfolding name_html
 returns g c =
     after _ _ _ _ _ _ c.in_ok-push_markup.ensures
     (after _ _ _ _ _ _ (same _ _ _ _ Digits c.to_be_bytes.ensures c.in_ok-push_digits.ensures)
-    (after _ _ _ _ _ _ c.in_ok-push_query.ensures
+    (after _ _ _ _ _ _ c.in_ok-push_after.ensures
     (after _ _ _ _ _ _ c.in_ok-push_markup-2.ensures
     (after _ _ _ _ _ _ c.in_ok-push_root.ensures c.push_markup-3.ensures))))

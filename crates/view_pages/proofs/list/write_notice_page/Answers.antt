@@ -8,7 +8,7 @@ returns g c =
     after _ _ _ _ _ _ c.in_ok-push_start.ensures
     (after _ _ _ _ _ _ c.in_ok-push_text.ensures
     (after _ _ _ _ _ _ c.in_ok-push_markup.ensures
-    (after _ _ _ _ _ _ c.in_ok-push_query.ensures
+    (after _ _ _ _ _ _ c.in_ok-push_after.ensures
     (after _ _ _ _ _ _ c.in_ok-push_markup-2.ensures
     (after _ _ _ _ _ _ c.in_ok-push_text-2.ensures
     (after _ _ _ _ _ _ c.in_ok-push_markup-3.ensures

@@ -5,6 +5,6 @@ use Rattle.view_pages.proofs.panel.push_context.Goals as goal
 pub returns : goal.returns
 unfolding context_html
 returns g c =
-    after _ _ _ _ _ _ c.in_ok-push_trace_state.ensures
+    after _ _ _ _ _ _ c.in_ok-push_after.ensures
     (after _ _ _ _ _ _ c.in_ok-push_markup.ensures
     (after _ _ _ _ _ _ c.in_ok-push_flags.ensures c.push_markup-2.ensures))

@@ -9,4 +9,4 @@ returns g c =
     (after _ _ _ _ _ _ c.in_ok-push_kind.ensures
     (after _ _ _ _ _ _ c.in_ok-push_markup-2.ensures
     (after _ _ _ _ _ _ c.in_ok-push_status.ensures
-    (same_ok _ _ _ _ _ message_html c.deref.ensures c.push_message.ensures))))
+    (same_ok _ _ _ _ _ message_html c.deref.ensures c.push_after.ensures))))

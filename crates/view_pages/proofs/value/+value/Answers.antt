@@ -79,7 +79,8 @@ push_value-returns-in-Bool-false g t c =
 
 pub push_value-returns-in-Int : goal.push_value-returns-in-Int
 push_value-returns-in-Int g t c =
-    told_call c.push_int.result c.args.value.now (Int c.in-Int.number) (string_bytes c.args.out.now)
+    told_call c.push_int.result c.args.value.now (Int c.in-Int.number)
+    (string_bytes c.args.out.now)
     (string_bytes c.push_int.new.out) (Signed c.in-Int.number) c.in-Int.is
     (html-Int _ _) c.push_int.ensures
 

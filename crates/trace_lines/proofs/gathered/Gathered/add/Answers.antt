@@ -1,6 +1,6 @@
 use Rattle.std.proofs.Common.{◌∙◌, ap, subst, sym}
 use Rattle.trace_lines.specs.Services.{AreServices, services_of, with_name}
-use Rattle.trace_lines.specs.Spans.{frame_with}
+use Rattle.trace_lines.specs.Times.{frame_with}
 use Rattle.trace_lines.proofs.Gathers.{frame_more}
 use Rattle.trace_lines.proofs.Names.{services_more}
 use Rattle.trace_lines.proofs.gathered.Gathered.add.Goals as goal
