@@ -1,5 +1,6 @@
 //! The command line of `trace-view`.
 ghost use Rattle.std.specs.Prelude.{◌≡◌, codes, IfErr, IfOk};
+ghost use Rattle.program_args.specs.Faults.{IsMistake};
 ghost use Rattle.program_args.specs.Words.{IsTaken, number_in, texts_given, texts_of};
 ghost use Rattle.trace_view.specs.Command.{IsCause, IsListenAddress, command};
 
@@ -114,8 +115,21 @@ const TEXTS: [TextOption<'static>; 2] = [
 const ABOUT: &str = "Receives spans by OTLP/HTTP, keeps the newest traces, and shows them in a \
     browser.";
 
-/// Why a text after `--address` is a mistake.
-const NO_ADDRESS: &str = "--address takes an IP address, as 127.0.0.1, 0.0.0.0 or ::1";
+/// The mistake that the first of these texts after `--address` is, since it is no IP address.
+fn no_address(alloc: Global, line: &CommandLine<'_>, texts: &[String]) -> ArgFault
+    ensures { IsMistake result }
+{
+    let text = match texts.first() {
+        Some(text) => text.as_str(),
+        None => "",
+    };
+    let Ok(cause) = format!(in alloc;
+        "'{text}' isn't an IP address; write --address 127.0.0.1, 0.0.0.0 or ::1, for example"
+    ) else {
+        return ArgFault::OutOfMemory;
+    };
+    line.mistake(alloc, &cause)
+}
 
 impl ViewArgs {
     /// Reads the words of the command line, of which the first is the program's name. An option
@@ -157,7 +171,7 @@ impl ViewArgs {
         let mut found = line.read(alloc, words)?;
         let hosts = found.texts.remove(1);
         let Some(address) = address_of(found.texts[0].as_slice()) else {
-            return Err(line.mistake(alloc, NO_ADDRESS));
+            return Err(no_address(alloc, &line, found.texts[0].as_slice()));
         };
         Ok(ViewArgs {
             address,

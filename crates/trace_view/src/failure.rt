@@ -13,14 +13,17 @@ pub enum Failure {
     /// This address can't be listened at.
     #[error("cannot listen on {0}: {1}")]
     Listen(SocketAddr, ListenFault),
+    /// The system gave no random numbers, by which traces are found whatever their identifiers are.
+    #[error("cannot get random numbers from the system; try again, or let the process ask for them")]
+    Random,
     /// The system refused what is needed to wait for connections.
-    #[error("cannot wait for connections")]
+    #[error("cannot wait for connections: the system refused it; let the process open more files")]
     Wait,
-    /// A line can't be written.
-    #[error("cannot write")]
+    /// The line with the address can't be written.
+    #[error("cannot write the address to standard output; start with one that can be written to")]
     Write,
     /// Memory was refused.
-    #[error("out of memory")]
+    #[error("out of memory; start with a smaller --keep-mb or --pending-mb, or with more memory")]
     OutOfMemory,
 }
 
@@ -59,7 +62,7 @@ impl Failure {
         ensures { result ≡ status_of self }
     {
         match self {
-            Failure::Listen(..) | Failure::Wait | Failure::Write => 1,
+            Failure::Listen(..) | Failure::Random | Failure::Wait | Failure::Write => 1,
             Failure::OutOfMemory => 3,
         }
     }

@@ -113,7 +113,7 @@ where
     P: Drop,
 {
     let Ok(hasher) = RandomState::new(rt) else {
-        return Err(Failure::Wait);
+        return Err(Failure::Random);
     };
     let Ok(hosts) = Hosts::new(alloc, address.ip(), address.port(), args.hosts.as_slice()) else {
         return Err(Failure::OutOfMemory);

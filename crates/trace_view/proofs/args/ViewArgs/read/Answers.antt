@@ -20,5 +20,5 @@ returns-in_default-clause-refused c =
     first_of (search rules, grind (arith, common_steps)) in
     let none : IsNoAddress (texts_given command (codes "address") c.args.words.now) =
     subst IsNoAddress same c.in_default.ensures in
-    cause-of-address c.args.words.now c.mistake.result c.mistake.ensures
+    cause-of-address c.args.words.now c.no_address.result c.no_address.ensures
     (c.in_ok-found.ensures.taken, none)
