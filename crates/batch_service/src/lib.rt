@@ -18,6 +18,3 @@ pub use naming::{NAMED_TOGETHER, NamingPass};
 pub use service::{MAX_THREADS, PassMissing, Served, Service, Started};
 pub use serving::{Done, serve, serve_within};
 pub use threads::{Room, ServicePass, Work, work_on_all};
-
-#[test]
-fn compiles() {}

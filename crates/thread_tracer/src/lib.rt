@@ -12,6 +12,3 @@ mod tracer;
 pub use span::ThreadSpan;
 pub use thread_trace::ThreadTrace;
 pub use tracer::{Refused, ThreadTracer};
-
-#[test]
-fn compiles() {}

@@ -10,6 +10,3 @@ mod work;
 pub use counts::TracedDone;
 pub use setup::{ServiceSetup, serve_from_environment};
 pub use work::{ThreadDone, TracedWork};
-
-#[test]
-fn compiles() {}
