@@ -6,7 +6,7 @@ use Rattle.std.specs.Prelude.{map, option_map, replicate, reverse, if◌then◌e
 use Rattle.std.proofs.lemmas.List.{append-nil, append_assoc, take_min, drop_min, length-map}
 use Rattle.model_span.specs.Spans.{SpanData}
 use Rattle.model_span.specs.Dropped.{Entry, Reason, queue_full, entry_of, can_drop_batch}
-use Rattle.model_retry.specs.Retries.{Fate}
+use Rattle.model_desk.specs.Retries.{Fate}
 use Rattle.model_desk.specs.Queue.{DeskEvent, queued, full, late, flush, shutdown, handed, popped}
 use Rattle.model_desk.specs.Queue.{popped_lost, lost_names}
 use Rattle.model_desk.specs.Desks.{DeskConfig, Desk, OutBatch, Does, DropsSpans, IsDesk}

@@ -4,7 +4,7 @@ use Rattle.std.specs.Prelude.{[], ◌∷◌, ◌++◌, length, take, drop, map, 
 use Rattle.std.specs.Prelude.{Some, option_map, replicate}
 use Rattle.model_span.specs.Spans.{SpanData, with_ticket}
 use Rattle.model_span.specs.Dropped.{Entry, Reason, queue_full, entry_of}
-use Rattle.model_retry.specs.Retries.{Fate}
+use Rattle.model_desk.specs.Retries.{Fate}
 use Rattle.model_desk.specs.Queue.{DeskEvent, queued, full, late, popped, popped_lost}
 use Rattle.model_desk.specs.Desks.{DeskConfig, Desk, with_drops, with_fate, capped, is_loss}
 use Rattle.model_desk.specs.Desks.{IsDesk, out_size}

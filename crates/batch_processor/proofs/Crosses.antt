@@ -11,7 +11,8 @@ use Rattle.batch_desk.proofs.Crosses.{batch_send, data_send, desk_send}
 use Rattle.account_book.specs.declared.book.Naming as naming
 use Rattle.account_book.proofs.book.Account.TheSendSync as account
 use Rattle.account_book.proofs.book.Book.TheSendSync as book
-use Rattle.batch_processor.specs.contracts.account.AccountState as AccountState
+use Rattle.processor_account.specs.contracts.state.AccountState as AccountState
+use Rattle.batch_processor.specs.contracts.account.BatchOrigin as BatchOrigin
 use Rattle.batch_processor.specs.contracts.lock.Lock as Lock
 use Rattle.batch_processor.specs.contracts.pass.Pass as Pass
 use Rattle.batch_processor.specs.contracts.pass.Pass.TheInside as pass
@@ -72,7 +73,10 @@ module _ (J : RattleType) (g : naming.Ghosts J.Denot) where
   pass_send R r = view_send _ _ _ _ _ (
       declared_send (pass.the_type J R Heap.the_row g ghosts) (
         heap.Arc-send (Lock.the_row J Heap.the_row g ghosts) lock_send lock_sync,
-        (account.the_send J AccountState.the_row g, (as_row_send (row_field R) r, tt)),
+        (
+          account.the_send J (AccountState.the_row BatchOrigin.the_row) g,
+          (as_row_send (row_field R) r, tt),
+        ),
       )
       )
 
@@ -84,7 +88,7 @@ module _ (J : RattleType) (g : naming.Ghosts J.Denot) where
       declared_send (worker.the_type J R Heap.the_row g ghosts) (
         heap.Arc-send (Lock.the_row J Heap.the_row g ghosts) lock_send lock_sync,
         (
-          account.the_send J AccountState.the_row g,
+          account.the_send J (AccountState.the_row BatchOrigin.the_row) g,
           (
             outcomes,
             (

@@ -11,7 +11,7 @@ use Rattle.account_book.specs.Accounts.{Replaces}
 use Rattle.account_book.proofs.Facts.{contains_replaced}
 use Rattle.model_span.specs.Spans.{SpanData, with_ticket}
 use Rattle.model_span.specs.Dropped.{Entry, Reason, queue_full, entry_of}
-use Rattle.model_retry.specs.Retries.{Fate}
+use Rattle.model_desk.specs.Retries.{Fate}
 use Rattle.model_desk.specs.Queue.{loss_reason, lost_names, named_as}
 use Rattle.model_desk.specs.Desks.{Desk, DeskConfig, OutBatch, accepted_count, after_settled}
 use Rattle.model_desk.specs.Desks.{is_due, is_flushed, is_loss, out_size, with_drops}
@@ -36,7 +36,8 @@ use Rattle.batch_processor.specs.Holds.{Asks, Guarded, InHold, IsBatchOf, IsBatc
 use Rattle.batch_processor.specs.Holds.{IsNamedBatchOf, IsSettledBatchOf, IsTold, Shuts}
 use Rattle.batch_processor.specs.declared.fault.WorkerLeft.{WorkerLeft}
 use Rattle.batch_processor.specs.declared.pass.Flushed.{Flushed}
-use Rattle.batch_processor.specs.Views.{after_end}
+use Rattle.processor_account.specs.Views.{after_end}
+use Rattle.batch_processor.specs.Views.{ended_of}
 
 -- ---- a span ends
 
@@ -67,26 +68,29 @@ module _ (desk desk' : Desk) (w : WorkerAccount) (old new : List PassAccount) (a
     (span : SpanData) (k : Agrees desk old w) where
   -- The desk agrees with the accounts again once an ended span is admitted, dropped or late.
   pub admit_agrees : (answer : Admitted) → answer ≡ admission desk
-      → desk' ≡ after_admission answer span desk → Replaces old a (after_end answer span a) new
+      → desk' ≡ after_admission answer span desk
+      → Replaces old a (after_end (ended_of answer) span a) new
       → Agrees desk' new w
   admit_agrees (admitted.Queued ticket) is came r =
       let at =
       queued_where desk.closed
       (length desk.waiting == desk.config.queue) desk.next_ticket ticket is in
-      queued_agrees desk w old new a (after_end (admitted.Queued ticket) span a) r k desk'
+      queued_agrees desk w old new a
+      (after_end (ended_of (admitted.Queued ticket)) span a) r k desk'
       (with_ticket ticket span) at.0 at.1 came refl
   admit_agrees (admitted.Full ticket) is came r =
       let at =
       full_where desk.closed
       (length desk.waiting == desk.config.queue) desk.next_ticket ticket is in
-      full_agrees desk w old new a (after_end (admitted.Full ticket) span a) r k desk'
+      full_agrees desk w old new a (after_end (ended_of (admitted.Full ticket)) span a) r k desk'
       (record { span = with_ticket ticket span; reason = queue_full; floor = a.floor })
       (with_ticket ticket span) refl at.0
       (eqb-true (length desk.waiting) desk.config.queue at.1) at.2 refl came refl
   admit_agrees admitted.Late is came r =
       let at =
       late_where desk.closed (length desk.waiting == desk.config.queue) desk.next_ticket is in
-      late_agrees desk w old new a (after_end admitted.Late span a) r k desk' at came refl
+      late_agrees desk w old new a
+      (after_end (ended_of admitted.Late) span a) r k desk' at came refl
 
 -- The end of a span leaves the desk's settings as they are.
 pub admit_config : (desk desk' : Desk) (answer : Admitted) (span : SpanData)

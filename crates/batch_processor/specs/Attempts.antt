@@ -3,8 +3,8 @@
 use Rattle.std.specs.Prelude.{◌≡◌, ℕ, ◌+◌, ◌≤◌, true, List, [], ◌∷◌, ◌++◌, length, Option, Some}
 use Rattle.std.specs.Prelude.{None}
 use Rattle.std.specs.List.{AllByRecursion, flat_map}
-use Rattle.model_retry.specs.Retries.{Outcome}
-use Rattle.model_retry.specs.Waits.{RetryConfig}
+use Rattle.model_desk.specs.Retries.{Outcome}
+use Rattle.model_desk.specs.Waits.{RetryConfig}
 use Rattle.span_exporter.specs.Handed.{Handed, Gains}
 use Rattle.model_processor.specs.Worker.{BatchEnd, settled, dropped, EndedBatch, OutBatch}
 use Rattle.model_processor.specs.Worker.{WorkerAccount}

@@ -1,25 +1,20 @@
 -- What a processor's settings and answers are in the model.
-use Rattle.std.specs.Prelude.{ℕ, ◌≤◌, List, map, Result, Ok, Err}
-use Rattle.model_span.specs.Spans.{SpanData}
-use Rattle.model_span.specs.Dropped.{queue_full}
-use Rattle.model_retry.specs.Retries as retries
+use Rattle.std.specs.Prelude.{ℕ, ◌≤◌, Result, Ok, Err}
 use Rattle.otlp_span.specs.declared.reason.Reason.TheVariants as reasons
 use Rattle.trace_api.specs.declared.pass.Ended.{Ended}
 use Rattle.trace_api.specs.declared.pass.Ended.TheVariants as answers
-use Rattle.retry_core.specs.Retries.{outcome_view}
-use Rattle.retry_core.specs.declared.outcome.Outcome.{Outcome}
 use Rattle.batch_desk.specs.Views.{config_view}
 use Rattle.batch_desk.specs.declared.admitted.Admitted.{Admitted}
 use Rattle.batch_desk.specs.declared.admitted.Admitted.TheVariants as admitted
 use Rattle.batch_processor.specs.declared.config.Setup.{Setup}
-use Rattle.batch_processor.specs.declared.processor.TheConstants.{MAX_PASSES}
+use Rattle.processor_account.specs.declared.passes.TheConstants.{MAX_PASSES}
 use Rattle.span_ring.specs.declared.fault.RingFault.{RingFault}
 use Rattle.span_ring.specs.declared.fault.RingFault.TheVariants as rings
 use Rattle.batch_processor.specs.declared.fault.WorkerLeft.{WorkerLeft}
 use Rattle.batch_processor.specs.declared.pass.Flushed.{Flushed}
 use Rattle.batch_processor.specs.declared.fault.NewFault.{NewFault}
 use Rattle.batch_processor.specs.declared.fault.NewFault.TheVariants as faults
-use Rattle.model_processor.specs.Passes.{PassAccount, after_accepted, after_dropped, after_late}
+use Rattle.model_processor.specs.Passes.{PassAccount}
 use Rattle.model_processor.specs.WorkerClauses.{Origin}
 use Rattle.model_processor.specs.AnyAccounts.{after_flushed, after_told_left}
 
@@ -31,20 +26,11 @@ setup_view s = record {
   max_body = s.config.max_body;
 }
 
-abbrev pub outcomes_view : List Outcome → List retries.Outcome
-outcomes_view outcomes = map outcome_view outcomes
-
 -- the answer to the end of a span, by how it was admitted
 abbrev pub ended_of : Admitted → Ended
 ended_of (admitted.Queued ticket) = answers.Queued ticket
 ended_of (admitted.Full ticket) = answers.Dropped ticket reasons.QueueFull
 ended_of admitted.Late = answers.Late
-
--- a pass's account after the end of a span, by how it was admitted
-abbrev pub after_end : Admitted → SpanData → PassAccount → PassAccount
-after_end (admitted.Queued ticket) span account = after_accepted ticket span account
-after_end (admitted.Full ticket) span account = after_dropped queue_full ticket span account
-after_end admitted.Late span account = after_late account
 
 -- a pass's account after the answer to a flush: it is flushed, or the worker has left
 abbrev pub after_answer : Result Flushed WorkerLeft → PassAccount → PassAccount

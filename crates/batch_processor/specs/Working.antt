@@ -4,8 +4,8 @@ use Rattle.std.specs.Prelude.{◌≡◌, ℕ, ◌<◌, ◌≤◌, Bool, true, fa
 use Rattle.std.specs.Prelude.{Option, Some, None}
 use Rattle.std.specs.List.{AllByRecursion}
 use Rattle.model_span.specs.Spans.{SpanData}
-use Rattle.model_retry.specs.Retries.{Outcome}
-use Rattle.model_retry.specs.Waits.{IsRetryConfig}
+use Rattle.model_desk.specs.Retries.{Outcome}
+use Rattle.model_desk.specs.Waits.{IsRetryConfig}
 use Rattle.retry_core.specs.Retries.{outcome_view}
 use Rattle.span_exporter.specs.Handed.{Handed, Gains, handing}
 use Rattle.batch_desk.specs.Batch.{BatchView}

@@ -1,7 +1,7 @@
 //! Why a batch processor was not made, or did not flush.
 
 use span_ring::RingFault;
-use std::alloc::{AllocError, AllocFailed};
+use std::alloc::AllocError;
 use thiserror::Error;
 
 /// Why a processor was not made. The first that holds is reported.
@@ -36,17 +36,6 @@ impl From<AllocError> for NewFault {
     ghost from_gives = { λ _ fault. fault ≡ faults.OutOfMemory };
 
     fn from(_: AllocError) -> NewFault {
-        NewFault::OutOfMemory
-    }
-}
-
-impl<T: Drop> From<AllocFailed<T>> for NewFault {
-    ghost use Rattle.std.specs.Prelude.{◌≡◌};
-    ghost use Rattle.batch_processor.specs.declared.fault.NewFault.TheVariants as faults;
-
-    ghost from_gives = { λ _ fault. fault ≡ faults.OutOfMemory };
-
-    fn from(_: AllocFailed<T>) -> NewFault {
         NewFault::OutOfMemory
     }
 }

@@ -4,7 +4,6 @@
 #![tactic(auto)]
 
 mod account;
-mod clock;
 mod config;
 mod fault;
 mod hold;
@@ -17,10 +16,10 @@ mod worker;
 
 pub use account::BatchBlank;
 pub use account_book::Naming;
-pub use clock::{ManualClock, SystemClock};
 pub use config::BatchConfig;
 pub use fault::{NewFault, WorkerLeft};
 pub use pass::{Flushed, Pass};
-pub use processor::{Accounts, BatchProcessor, MAX_PASSES, Missing, Parts};
-pub use trace_api::Clock;
+pub use processor::{Accounts, BatchProcessor, Missing, Parts};
+pub use processor_account::MAX_PASSES;
+pub use trace_api::{Clock, ManualClock, SystemClock};
 pub use worker::{WorkEnd, WorkerPass};

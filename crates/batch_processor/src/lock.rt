@@ -4,7 +4,7 @@ ghost use Rattle.batch_processor.specs.Holds.{WasTold};
 ghost use Rattle.model_processor.specs.AnyAccounts.{account_in, on_pass, pass};
 ghost use Rattle.batch_processor.specs.Views.{after_answer};
 
-use crate::account::AccountState;
+use crate::account::BatchState;
 use crate::fault::WorkerLeft;
 use crate::hold::{After, Wake};
 use crate::pass::Flushed;
@@ -53,7 +53,7 @@ impl<J: Naming, A: Allocator + Copy> Lock<J, A> {
     pub(crate) fn wait<R: Wait>(
         &self,
         rt: &R,
-        account: &mut Account<J, AccountState>,
+        account: &mut Account<J, BatchState>,
         mark: Mark,
     ) -> Result<Flushed, WorkerLeft>
         requires pass { account.old ≡ pass (account_in account.old) }

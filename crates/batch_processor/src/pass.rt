@@ -4,14 +4,13 @@ ghost use Rattle.otlp_span.specs.Dropped.{entry_view};
 ghost use Rattle.model_processor.specs.Passes.{after_drain, after_pop, after_pop_lost};
 ghost use Rattle.batch_processor.specs.Answers.{AsksShutdown, IsFlushed, IsShutDown};
 ghost use Rattle.batch_processor.specs.Holds.{WasCounted};
-ghost use Rattle.batch_processor.specs.Views.{ended_of};
 
-use crate::account::AccountState;
+use crate::account::BatchState;
 use crate::fault::WorkerLeft;
 use crate::lock::Lock;
 use account_book::{Account, Naming};
-use batch_desk::{Admitted, DrainedNames, Totals};
-use otlp_span::{Entry, Reason, SpanData};
+use batch_desk::{DrainedNames, Totals};
+use otlp_span::{Entry, SpanData};
 use std::alloc::{Allocator, Global};
 use std::fmt;
 use std::marker::Model;
@@ -31,7 +30,7 @@ pub struct Flushed;
 #[derive(Drop)]
 pub struct Pass<J: Naming, R, A: Allocator = Global> {
     pub(crate) lock: Arc<Lock<J, A>, A>,
-    pub(crate) account: Account<J, AccountState>,
+    pub(crate) account: Account<J, BatchState>,
     pub(crate) rt: R,
 }
 
@@ -152,22 +151,11 @@ impl<J: Naming, R: Wait, A: Allocator + Copy> EndPass<SpanData<A>> for Pass<J, R
         let Pass { lock, account, rt } = self;
         let mut shared = lock.shared.lock(rt);
         let after = shared.admit(account, span);
-        let (admitted, remains, spent) = lock.end(shared, after);
+        let (answer, remains, spent) = lock.end(shared, after);
         // A span that doesn't wait is freed here, once the hold is over, and so is one that was
         // sent.
         drop(remains);
         drop(spent);
-        ended_of(admitted)
-    }
-}
-
-/// The answer to the end of a span that was admitted so.
-fn ended_of(admitted: Admitted) -> Ended
-    ensures { result ≡ ended_of admitted }
-{
-    match admitted {
-        Admitted::Queued(ticket) => Ended::Queued(ticket),
-        Admitted::Full(ticket) => Ended::Dropped(ticket, Reason::QueueFull),
-        Admitted::Late => Ended::Late,
+        answer
     }
 }

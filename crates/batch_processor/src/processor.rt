@@ -10,10 +10,10 @@ ghost use Rattle.span_ring.specs.declared.ring.TheConstants.{MAX_QUEUE};
 ghost use Rattle.model_desk.specs.Desks.{new_desk};
 ghost use Rattle.batch_desk.specs.Views.{config_view};
 ghost use Rattle.batch_processor.specs.Views.{IsPassCount, setup_view};
-ghost use Rattle.batch_processor.specs.declared.processor.TheConstants.{MAX_PASSES};
+ghost use Rattle.processor_account.specs.declared.passes.TheConstants.{MAX_PASSES};
 ghost use Rattle.model_processor.specs.WorkerClauses.{IsAccounted, WorksUntilItLeaves, abandon};
 
-use crate::account::{AccountState, BatchBlank, Begins, NewProcessor, NewWorker, WorkerBegins};
+use crate::account::{BatchBlank, BatchState, Begins, WorkerBegins};
 use crate::config::{BatchConfig, Setup};
 use crate::fault::NewFault;
 use crate::lock::Lock;
@@ -22,6 +22,7 @@ use crate::shared::Shared;
 use crate::worker::WorkerPass;
 use account_book::{Account, Naming};
 use batch_desk::{Desk, DeskConfig};
+use processor_account::MAX_PASSES;
 use std::alloc::{AllocError, Allocator, Global};
 use std::fmt;
 use std::marker::Model;
@@ -31,7 +32,7 @@ use std::sync::{Arc, Wait};
 #[derive(Drop)]
 pub struct BatchProcessor<J: Naming, R, A: Allocator = Global> {
     lock: Arc<Lock<J, A>, A>,
-    account: Account<J, AccountState>,
+    account: Account<J, BatchState>,
     setup: Setup,
     // Takes the place of the desk in the end, so that to take that out needs no memory.
     spare: Desk<A>,
@@ -136,12 +137,6 @@ impl<J: Naming, R: Wait + Drop, A: Allocator + Copy> Missing<J, R, A> {
         drop(self);
     }
 }
-
-/// The most passes that a processor may have (profile).
-pub const MAX_PASSES: usize = 64;
-
-// No clause says the number itself.
-const _: () = prove!(MAX_PASSES == 64);
 
 /// A new processor, its passes, and the worker's.
 #[derive(Drop)]
@@ -270,11 +265,11 @@ impl<J: Naming, R: Wait + Copy, A: Allocator + Copy> BatchProcessor<J, R, A> {
         let spare = spare_desk(alloc)?;
         let spent = Vec::with_capacity(alloc, setup.config.desk.batch)?;
         let mut book = blank.named::<J>();
-        let mut account = book.open::<NewProcessor>();
+        let mut account = book.open::<BatchState>();
         book.record::<Setup, Begins>(&mut account, &setup);
-        let mut of_worker = book.open::<NewWorker>();
+        let mut of_worker = book.open::<BatchState>();
         book.record::<Setup, WorkerBegins>(&mut of_worker, &setup);
-        let accounts = book.open_all::<AccountState, A>(alloc, setup.passes)?;
+        let accounts = book.open_all::<BatchState, A>(alloc, setup.passes)?;
         let shared = Shared {
             desk,
             left: false,
@@ -315,7 +310,7 @@ fn give_passes<J: Naming, R: Copy, A: Allocator>(
     alloc: A,
     rt: R,
     lock: &Arc<Lock<J, A>, A>,
-    accounts: Vec<Account<J, AccountState>, A>,
+    accounts: Vec<Account<J, BatchState>, A>,
 ) -> Result<Vec<Pass<J, R, A>, A>, AllocError>
     requires { AllByRecursion (λ h. h ≡ pass new_account) accounts.items }
     ensures count { IfOk result (λ passes. vec_len passes ≡ vec_len accounts) }

@@ -13,28 +13,31 @@ ghost use Rattle.model_processor.specs.AnyAccounts.{after_handed, after_left, af
 ghost use Rattle.model_processor.specs.AnyAccounts.{after_take};
 ghost use Rattle.model_processor.specs.AnyAccounts.{left_if, on_pass, on_worker, origin_in, pass};
 ghost use Rattle.model_processor.specs.AnyAccounts.{processor, worker, worker_in};
-ghost use Rattle.batch_processor.specs.Views.{after_answer, after_end, outcomes_view};
+ghost use Rattle.processor_account.specs.Views.{after_end, outcomes_view};
+ghost use Rattle.batch_processor.specs.Views.{after_answer, ended_of};
 ghost use Rattle.batch_processor.specs.Holds.{Asks, InHold, IsBatchOf, IsBatchSize, IsCounted};
 ghost use Rattle.batch_processor.specs.Holds.{IsNamedBatchOf};
 ghost use Rattle.batch_processor.specs.Holds.{IsSettledBatchOf, IsTold, Shuts, has_work, wake_of};
 ghost use Rattle.model_processor.specs.Kept.{IsAccountOf};
 
-use crate::account::{
-    AccountState, Drains, Drops, Ends, Flushes, Hands, Leaves, Pops, PopsAll, PopsLost, Settled,
-    Settles, ShutsDown, SpanEnded, Takes, ToldFlushed, ToldLeft,
-};
+use crate::account::BatchState;
 use crate::config::Setup;
 use crate::fault::WorkerLeft;
 use crate::hold::{After, Wake};
 use crate::pass::{Flushed, Pass};
 use account_book::{Account, Book, Naming};
 use batch_desk::{Admitted, Batch, Desk, DrainedNames, Mark, NamedBatch, SettledBatch, Totals};
-use otlp_span::{Entry, SpanData, SpanRemains};
+use otlp_span::{Entry, Reason, SpanData, SpanRemains};
+use processor_account::{
+    Drains, Drops, Ends, Flushes, Hands, Leaves, Pops, PopsAll, PopsLost, Settled, Settles,
+    ShutsDown, SpanEnded, Takes, ToldFlushed, ToldLeft,
+};
 use retry_core::Outcome;
 use std::alloc::Allocator;
 use std::marker::Model;
 use std::mem;
 use std::snapshot::Snapshot;
+use trace_api::Ended;
 
 /// What waiting threads wait for: whether the worker has work, whatever the moment is; and what
 /// flushes are answered by, whether a batch is out, and whether the worker has left.
@@ -55,7 +58,7 @@ pub(crate) struct Shared<J: Naming, A: Allocator> {
     pub(crate) left: bool,
     // Spans that were sent. The threads that end other spans free them.
     pub(crate) spent: Vec<SpanData<A>, A>,
-    pub(crate) book: Book<J, AccountState>,
+    pub(crate) book: Book<J, BatchState>,
     pub(crate) setup: Setup,
 }
 
@@ -90,29 +93,31 @@ impl<J: Naming, A: Allocator + Copy> Shared<J, A> {
         }
     }
 
-    /// What a hold wakes, where this was so when it began.
-    fn wake(&self, was: Awaited) -> Wake
-        ensures worker { result.worker ≡ (has_work self.now.desk && not was.has_work) }
-        ensures flushes { result.flushes
+    /// What a hold answers, and whom it wakes, where this was so when it began.
+    fn after<T>(&self, was: Awaited, value: T) -> After<T>
+        ensures value { result.value ≡ value }
+        ensures worker { result.wake.worker ≡ (has_work self.now.desk && not was.has_work) }
+        ensures flushes { result.wake.flushes
             ≡ ((was.is_out && not (is_some self.now.desk.out)) || (self.now.left && not was.left)) }
     {
         let is = self.awaited();
-        Wake {
+        let wake = Wake {
             worker: is.has_work && !was.has_work,
             flushes: was.is_out && !is.is_out || is.left && !was.left,
-        }
+        };
+        After { wake, value }
     }
 
     /// A span ends on a pass. What is left of it where it doesn't wait is handed out, and else a
     /// span that was sent, if one is left: both are to be freed once the hold is over.
     pub(crate) fn admit(
         &mut self,
-        account: &mut Account<J, AccountState>,
+        account: &mut Account<J, BatchState>,
         span: SpanData<A>,
-    ) -> After<(Admitted, Option<SpanRemains<A>>, Option<SpanData<A>>)>
+    ) -> After<(Ended, Option<SpanRemains<A>>, Option<SpanData<A>>)>
         requires { account.old ≡ pass (account_in account.old) }
         ensures hold { InHold self.old (account_in account.old) }
-        ensures answer { result.value.0 ≡ admission self.old.desk }
+        ensures answer { result.value.0 ≡ ended_of (admission self.old.desk) }
         ensures account { account.new ≡ on_pass (after_end result.value.0 span) account.old }
         ensures desk { self.new ≡ record self.old {
           desk = after_admission (admission self.old.desk) span self.old.desk;
@@ -123,41 +128,16 @@ impl<J: Naming, A: Allocator + Copy> Shared<J, A> {
         ensures wake { result.wake ≡ wake_of self.old self.new }
     {
         let was = self.awaited();
-        let (admitted, remains) = self.queue(account, span);
+        let seen = Snapshot::of(&span);
+        let (admitted, remains) = self.desk.offer(span);
+        let answer = ended_of(admitted);
+        let ended = SpanEnded { span: seen, answer };
+        self.book.record::<SpanEnded<A>, Ends>(account, &ended);
         let spent = match &remains {
             None => self.spent.pop(),
             Some(_) => None,
         };
-        let wake = self.wake(was);
-        After {
-            wake,
-            value: (admitted, remains, spent),
-        }
-    }
-
-    /// Queues a span that ends on a pass. What is left of it where it doesn't wait is handed out.
-    fn queue(
-        &mut self,
-        account: &mut Account<J, AccountState>,
-        span: SpanData<A>,
-    ) -> (Admitted, Option<SpanRemains<A>>)
-        requires { account.old ≡ pass (account_in account.old) }
-        ensures hold { InHold self.old (account_in account.old) }
-        ensures answer { result.0 ≡ admission self.old.desk }
-        ensures account { account.new ≡ on_pass (after_end result.0 span) account.old }
-        ensures desk { self.new ≡ record self.old {
-          desk = after_admission (admission self.old.desk) span self.old.desk;
-        } }
-        ensures remains { is_none result.1 ≡ is_queued (admission self.old.desk) }
-    {
-        let seen = Snapshot::of(&span);
-        let (admitted, remains) = self.desk.offer(span);
-        let ended = SpanEnded {
-            span: seen,
-            admitted,
-        };
-        self.book.record::<SpanEnded<A>, Ends>(account, &ended);
-        (admitted, remains)
+        self.after(was, (answer, remains, spent))
     }
 
     /// Leaves the spans of a batch that was sent to the threads that end others, where half a batch
@@ -174,7 +154,7 @@ impl<J: Naming, A: Allocator + Copy> Shared<J, A> {
     }
 
     /// A pass asks for all spans that were accepted so far.
-    pub(crate) fn flush(&mut self, account: &mut Account<J, AccountState>) -> After<Mark>
+    pub(crate) fn flush(&mut self, account: &mut Account<J, BatchState>) -> After<Mark>
         requires { account.old ≡ pass (account_in account.old) }
         ensures asks { Asks self.old result.value account.old account.new }
         ensures desk { self.new ≡ record self.old {
@@ -183,28 +163,15 @@ impl<J: Naming, A: Allocator + Copy> Shared<J, A> {
         ensures wake { result.wake ≡ wake_of self.old self.new }
     {
         let was = self.awaited();
-        let value = self.ask(account);
-        let wake = self.wake(was);
-        After { wake, value }
-    }
-
-    /// Asks the queue for all spans, and notes it in the pass's account.
-    fn ask(&mut self, account: &mut Account<J, AccountState>) -> Mark
-        requires { account.old ≡ pass (account_in account.old) }
-        ensures asks { Asks self.old result account.old account.new }
-        ensures desk { self.new ≡ record self.old {
-          desk = record self.old.desk { asked = accepted_count self.old.desk };
-        } }
-    {
         let seen = Snapshot::of(&self.desk);
         let mark = self.desk.flush();
         self.book
             .record::<Snapshot<Desk<A>>, Flushes>(account, &seen);
-        mark
+        self.after(was, mark)
     }
 
     /// A pass shuts the processor down.
-    pub(crate) fn shutdown(&mut self, account: &mut Account<J, AccountState>) -> After<Mark>
+    pub(crate) fn shutdown(&mut self, account: &mut Account<J, BatchState>) -> After<Mark>
         requires { account.old ≡ pass (account_in account.old) }
         ensures asks { Shuts self.old result.value account.old account.new }
         ensures desk { self.new ≡ record self.old {
@@ -213,31 +180,18 @@ impl<J: Naming, A: Allocator + Copy> Shared<J, A> {
         ensures wake { result.wake ≡ wake_of self.old self.new }
     {
         let was = self.awaited();
-        let value = self.close_queue(account);
-        let wake = self.wake(was);
-        After { wake, value }
-    }
-
-    /// Closes the queue, asks it for all spans, and notes it in the pass's account.
-    fn close_queue(&mut self, account: &mut Account<J, AccountState>) -> Mark
-        requires { account.old ≡ pass (account_in account.old) }
-        ensures asks { Shuts self.old result account.old account.new }
-        ensures desk { self.new ≡ record self.old {
-          desk = record self.old.desk { asked = accepted_count self.old.desk; closed = true };
-        } }
-    {
         let seen = Snapshot::of(&self.desk);
         let mark = self.desk.shutdown();
         self.book
             .record::<Snapshot<Desk<A>>, ShutsDown>(account, &seen);
-        mark
+        self.after(was, mark)
     }
 
     /// The answer to a pass that asked last for what this mark says: that it is flushed, or else
     /// that the worker has left. None where neither is so yet.
     pub(crate) fn flushed(
         &mut self,
-        account: &mut Account<J, AccountState>,
+        account: &mut Account<J, BatchState>,
         mark: Mark,
     ) -> Option<Result<Flushed, WorkerLeft>>
         requires pass { account.old ≡ pass (account_in account.old) }
@@ -261,7 +215,7 @@ impl<J: Naming, A: Allocator + Copy> Shared<J, A> {
     }
 
     /// The counts of all that came so far, on a pass.
-    pub(crate) fn totals(&mut self, account: &mut Account<J, AccountState>) -> Totals
+    pub(crate) fn totals(&mut self, account: &mut Account<J, BatchState>) -> Totals
         requires { account.old ≡ pass (account_in account.old) }
         ensures counts { IsCounted self.old result (account_in account.old) }
         ensures account { account.new ≡ account.old }
@@ -272,7 +226,7 @@ impl<J: Naming, A: Allocator + Copy> Shared<J, A> {
     }
 
     /// A pass pops an entry of the ledger.
-    pub(crate) fn pop_entry(&mut self, account: &mut Account<J, AccountState>) -> Option<Entry>
+    pub(crate) fn pop_entry(&mut self, account: &mut Account<J, BatchState>) -> Option<Entry>
         requires { account.old ≡ pass (account_in account.old) }
         ensures some { IfSome result
             (λ entry. account.new ≡ on_pass (after_pop (entry_view entry)) account.old) }
@@ -287,7 +241,7 @@ impl<J: Naming, A: Allocator + Copy> Shared<J, A> {
     }
 
     /// A pass pops an entry of the ledger of lost spans.
-    pub(crate) fn pop_lost(&mut self, account: &mut Account<J, AccountState>) -> Option<Entry>
+    pub(crate) fn pop_lost(&mut self, account: &mut Account<J, BatchState>) -> Option<Entry>
         requires { account.old ≡ pass (account_in account.old) }
         ensures some { IfSome result
             (λ entry. account.new ≡ on_pass (after_pop_lost (entry_view entry)) account.old) }
@@ -302,7 +256,7 @@ impl<J: Naming, A: Allocator + Copy> Shared<J, A> {
     }
 
     /// A pass drains both ledgers. However many names there are, none is looked at in the hold.
-    pub(crate) fn drain_names(&mut self, account: &mut Account<J, AccountState>) -> DrainedNames<A>
+    pub(crate) fn drain_names(&mut self, account: &mut Account<J, BatchState>) -> DrainedNames<A>
         requires { account.old ≡ pass (account_in account.old) }
         ensures account { account.new ≡ on_pass
             (after_drain (reverse result.dropped) (reverse result.lost)) account.old }
@@ -319,7 +273,7 @@ impl<J: Naming, A: Allocator + Copy> Shared<J, A> {
     /// The worker, which has no batch out, takes the next batch, if it is due.
     pub(crate) fn take(
         &mut self,
-        account: &mut Account<J, AccountState>,
+        account: &mut Account<J, BatchState>,
         now: u64,
     ) -> Option<Batch<A>>
         requires worker { account.old ≡ worker (origin_in account.old) (worker_in account.old) }
@@ -344,7 +298,7 @@ impl<J: Naming, A: Allocator + Copy> Shared<J, A> {
     /// The worker hands its batch to an exporter, with this body.
     pub(crate) fn handed(
         &mut self,
-        account: &mut Account<J, AccountState>,
+        account: &mut Account<J, BatchState>,
         batch: &Batch<A>,
         body: &Vec<u8, A>,
     )
@@ -361,7 +315,7 @@ impl<J: Naming, A: Allocator + Copy> Shared<J, A> {
     /// the same hold, or it doesn't.
     pub(crate) fn drop_batch(
         &mut self,
-        account: &mut Account<J, AccountState>,
+        account: &mut Account<J, BatchState>,
         batch: NamedBatch<A>,
         leaves: bool,
     ) -> After<()>
@@ -376,23 +330,10 @@ impl<J: Naming, A: Allocator + Copy> Shared<J, A> {
         ensures wake { result.wake ≡ wake_of self.old self.new }
     {
         let was = self.awaited();
-        self.drop_named(account, batch);
-        self.leave_if(account, leaves);
-        let wake = self.wake(was);
-        After { wake, value: () }
-    }
-
-    /// Drops the worker's batch.
-    fn drop_named(&mut self, account: &mut Account<J, AccountState>, batch: NamedBatch<A>)
-        requires worker { account.old ≡ worker (origin_in account.old) (worker_in account.old) }
-        requires out { IsNamedBatchOf account.old batch }
-        ensures account { account.new ≡ on_worker (after_drop batch.reason) account.old }
-        ensures desk { self.new ≡ record self.old {
-          desk = after_names batch.reason batch.entries self.old.desk;
-        } }
-    {
         self.book.record::<NamedBatch<A>, Drops>(account, &batch);
         self.desk.drop_named(batch);
+        self.leave_if(account, leaves);
+        self.after(was, ())
     }
 
     /// The worker settles its batch, which was handed, and whose lost spans are named, after these
@@ -401,7 +342,7 @@ impl<J: Naming, A: Allocator + Copy> Shared<J, A> {
     /// hold is over.
     pub(crate) fn settle(
         &mut self,
-        account: &mut Account<J, AccountState>,
+        account: &mut Account<J, BatchState>,
         batch: SettledBatch<A>,
         outcomes: &Vec<Outcome, A>,
         leaves: bool,
@@ -421,28 +362,6 @@ impl<J: Naming, A: Allocator + Copy> Shared<J, A> {
         ensures wake { result.wake ≡ wake_of self.old self.new }
     {
         let was = self.awaited();
-        self.settle_batch(account, batch, outcomes);
-        self.leave_if(account, leaves);
-        self.leave_spent(&mut spent);
-        let wake = self.wake(was);
-        After { wake, value: spent }
-    }
-
-    /// Settles the worker's batch.
-    fn settle_batch(
-        &mut self,
-        account: &mut Account<J, AccountState>,
-        batch: SettledBatch<A>,
-        outcomes: &Vec<Outcome, A>,
-    )
-        requires worker { account.old ≡ worker (origin_in account.old) (worker_in account.old) }
-        requires out { IsSettledBatchOf account.old batch }
-        ensures account { account.new ≡ on_worker
-            (after_settle (outcomes_view outcomes.now.items) batch.fate) account.old }
-        ensures desk { self.new ≡ record self.old {
-          desk = after_loss batch.fate batch.entries self.old.desk;
-        } }
-    {
         let seen = Snapshot::of(outcomes);
         let settled = Settled {
             outcomes: seen,
@@ -450,10 +369,13 @@ impl<J: Naming, A: Allocator + Copy> Shared<J, A> {
         };
         self.book.record::<Settled<A>, Settles>(account, &settled);
         self.desk.settle_named(batch);
+        self.leave_if(account, leaves);
+        self.leave_spent(&mut spent);
+        self.after(was, spent)
     }
 
     /// The worker, which has no batch out, leaves.
-    pub(crate) fn leave(&mut self, account: &mut Account<J, AccountState>) -> After<()>
+    pub(crate) fn leave(&mut self, account: &mut Account<J, BatchState>) -> After<()>
         requires { account.old ≡ worker (origin_in account.old) (worker_in account.old) }
         ensures account { account.new ≡ on_worker after_left account.old }
         ensures left { self.new ≡ record self.old { left = true } }
@@ -461,13 +383,12 @@ impl<J: Naming, A: Allocator + Copy> Shared<J, A> {
     {
         let was = self.awaited();
         self.leave_if(account, true);
-        let wake = self.wake(was);
-        After { wake, value: () }
+        self.after(was, ())
     }
 
     /// Whether the processor is shut down, and no span waits: for the worker, which has no batch
     /// out.
-    pub(crate) fn drained(&mut self, account: &mut Account<J, AccountState>) -> bool
+    pub(crate) fn drained(&mut self, account: &mut Account<J, BatchState>) -> bool
         requires worker { account.old ≡ worker (origin_in account.old) (worker_in account.old) }
         ensures yes { IsTrue result → account.new ≡ on_worker after_drained account.old }
         ensures no { result ≡ false → account.new ≡ account.old }
@@ -481,7 +402,7 @@ impl<J: Naming, A: Allocator + Copy> Shared<J, A> {
     }
 
     /// The worker leaves by this hold, or it doesn't.
-    fn leave_if(&mut self, account: &mut Account<J, AccountState>, leaves: bool)
+    fn leave_if(&mut self, account: &mut Account<J, BatchState>, leaves: bool)
         requires { account.old ≡ worker (origin_in account.old) (worker_in account.old) }
         ensures account { account.new ≡ on_worker (left_if leaves) account.old }
         ensures left { self.new ≡ record self.old { left = leaves || self.old.left } }
@@ -497,8 +418,8 @@ impl<J: Naming, A: Allocator + Copy> Shared<J, A> {
     /// spare one.
     pub(crate) fn close<R: Drop>(
         &mut self,
-        mut account: Account<J, AccountState>,
-        of_worker: Account<J, AccountState>,
+        mut account: Account<J, BatchState>,
+        of_worker: Account<J, BatchState>,
         passes: Vec<Pass<J, R, A>, A>,
         spare: Desk<A>,
     ) -> Desk<A>
@@ -524,5 +445,16 @@ impl<J: Naming, A: Allocator + Copy> Shared<J, A> {
             self.book.close(account);
         }
         desk
+    }
+}
+
+/// The answer to the end of a span that was admitted so.
+fn ended_of(admitted: Admitted) -> Ended
+    ensures { result ≡ ended_of admitted }
+{
+    match admitted {
+        Admitted::Queued(ticket) => Ended::Queued(ticket),
+        Admitted::Full(ticket) => Ended::Dropped(ticket, Reason::QueueFull),
+        Admitted::Late => Ended::Late,
     }
 }

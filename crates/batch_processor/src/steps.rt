@@ -16,7 +16,7 @@ ghost use Rattle.batch_processor.specs.Working.{IsExported, IsReady, IsWorkingWi
 ghost use Rattle.batch_processor.specs.Working.{TakesStep, hand_at, in_hand, pending_at, to_encode};
 ghost use Rattle.batch_processor.specs.Working.{to_judge, to_retry, to_send, work_in};
 
-use crate::account::AccountState;
+use crate::account::BatchState;
 use crate::config::Setup;
 use crate::lock::{Lock, PAUSE_MS};
 use account_book::{Account, Naming};
@@ -63,7 +63,7 @@ impl<A: Allocator> Model for InHand<A> {
 /// All that a worker's pass has but the batch in hand.
 pub(crate) struct Worker<J: Naming, R, A: Allocator> {
     pub(crate) lock: Arc<Lock<J, A>, A>,
-    pub(crate) account: Account<J, AccountState>,
+    pub(crate) account: Account<J, BatchState>,
     // The outcomes of the batch in hand that were judged.
     pub(crate) outcomes: Vec<Outcome, A>,
     // Where the spans of a batch go that is settled.
@@ -76,7 +76,8 @@ pub(crate) struct Worker<J: Naming, R, A: Allocator> {
 impl<J: Naming, R, A: Allocator> Model for Worker<J, R, A> {
     ghost use Rattle.std.specs.Prelude.{◌≡◌, ◌≤◌, vec_capacity};
     ghost use Rattle.model_processor.specs.AnyAccounts.{worker, worker_in};
-    ghost use Rattle.batch_processor.specs.Views.{outcomes_view, setup_view};
+    ghost use Rattle.processor_account.specs.Views.{outcomes_view};
+    ghost use Rattle.batch_processor.specs.Views.{setup_view};
     ghost use Rattle.batch_processor.specs.Working.{WorkerState};
 
     ghost Value = { WorkerState };
@@ -336,7 +337,7 @@ impl<J: Naming, R: Wait + Drop, A: Allocator + Copy> Worker<J, R, A> {
 
 impl<J: Naming, R: Drop, A: Allocator + Copy> Worker<J, R, A> {
     /// What the worker knows, where no batch is in hand.
-    pub(crate) fn into_account(self) -> Account<J, AccountState>
+    pub(crate) fn into_account(self) -> Account<J, BatchState>
         ensures { result ≡ worker self.origin self.account }
     {
         let Worker {

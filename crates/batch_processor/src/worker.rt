@@ -1,6 +1,6 @@
 //! The worker's pass: turns of work, and what becomes of a batch in hand where the pass is dropped.
 ghost use Rattle.std.specs.Prelude.{◌≡◌, List, Option, IfOk, IfSome, IsTrue, None, true, false};
-ghost use Rattle.model_retry.specs.Waits.{IsRetryConfig};
+ghost use Rattle.model_desk.specs.Waits.{IsRetryConfig};
 ghost use Rattle.model_processor.specs.Worker.{new_worker};
 ghost use Rattle.model_processor.specs.WorkerClauses.{EachLeadsOn, EndByWork, WorksUntilItLeaves};
 ghost use Rattle.model_processor.specs.WorkerClauses.{abandon};
@@ -9,7 +9,7 @@ ghost use Rattle.span_exporter.specs.Handed.{Handed};
 ghost use Rattle.batch_processor.specs.Views.{setup_view};
 ghost use Rattle.batch_processor.specs.Working.{GoesOn, IsPrepared};
 
-use crate::account::AccountState;
+use crate::account::BatchState;
 use crate::config::Setup;
 use crate::lock::Lock;
 use crate::steps::{InHand, Worker};
@@ -69,7 +69,7 @@ impl<J: Naming, R: Wait + Drop, A: Allocator + Copy> WorkerPass<J, R, A> {
         alloc: A,
         rt: R,
         lock: &Arc<Lock<J, A>, A>,
-        account: Account<J, AccountState>,
+        account: Account<J, BatchState>,
         setup: &Setup,
     ) -> Result<WorkerPass<J, R, A>, AllocError>
         requires account { account ≡ worker (setup_view setup.now) new_worker }
@@ -226,7 +226,7 @@ impl<J: Naming, R: Wait + Drop, A: Allocator + Copy> WorkerPass<J, R, A> {
     }
 
     /// Abandons the batch in hand, if there is one, as `leave` does.
-    pub(crate) fn abandon(self) -> Account<J, AccountState>
+    pub(crate) fn abandon(self) -> Account<J, BatchState>
         ensures account { result ≡ worker self.origin (abandon self.account) }
         ensures by_work { EndByWork self.origin (abandon self.account) }
         ensures works { WorksUntilItLeaves self.origin self.account }

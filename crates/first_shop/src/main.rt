@@ -6,9 +6,10 @@
 //! Without arguments it makes its own requests, and prints the same in each run. With a number it
 //! prints its ports, and ends after so many requests of others to the first service. With `to` and
 //! a port, it waits until something listens at this port of loopback, for two minutes at most,
-//! makes its own requests, and exports to the collector there, as to `trace-view`. It ends whatever
-//! that does: each service exports for 5 seconds at most once it is stopped, and an attempt takes 5
-//! seconds at most.
+//! makes its own requests, and exports to the collector there, as to `trace-view`. It then prints
+//! only what became of the spans. They go by the system's clock, and the last trace has nine of
+//! them, with an error. It ends whatever the collector does: each service exports for 5 seconds at
+//! most once it is stopped, and an attempt takes 5 seconds at most.
 #![tactic(auto)]
 
 mod cart;
@@ -16,14 +17,15 @@ mod clock;
 mod customer;
 mod report;
 mod site;
+mod spans;
 mod stock;
 
 use anyhow::{Context, Result};
 use cart::CartWork;
-use clock::StepClock;
+use clock::ShopClock;
 use otlp_serve::Collector;
 use report::{Balance, write_balances, write_report};
-use site::{Site, THREADS, config};
+use site::{Name, Site, THREADS, config};
 use std::alloc::Global;
 use std::env;
 use std::net::{Ipv4Addr, Net, TcpListener, TcpStream};
@@ -37,7 +39,7 @@ use trace_kit::processor::{Done, Work, serve_within};
 use trace_kit::queue::{DEFAULT_NAMES, NewestNames};
 
 /// How many carts the program asks for itself.
-const CARTS: u64 = 6;
+const CARTS: u64 = 5;
 
 /// How often it looks whether enough requests came, and for how long, in milliseconds.
 const LOOKS: u64 = 12_000;
@@ -52,12 +54,13 @@ const EXPORT_MS: u64 = 5_000;
 const STOP_MS: u64 = 5_000;
 
 /// Serves a service with its threads, and gives what became of its spans.
-fn run<R, W>(rt: R, alloc: Global, collector: u16, site: &Site<R>, work: &W) -> Result<Balance>
+fn run<R, W>(collector: u16, site: &Site<R>, work: &W) -> Result<Balance>
 where
     R: Net<Listener = TcpListener, Stream = TcpStream>,
     R: Threads + Wait + RandomSource + Clock + Copy + Send + Sync + 'static,
     W: Work<Output = Result<()>> + Sync,
 {
+    let (rt, alloc) = (site.rt, site.alloc);
     let target = Target::new(alloc, "127.0.0.1", collector, DEFAULT_PATH)?;
     let exporter = HttpExporter::new(alloc, rt, target, EXPORT_MS);
     let names = NewestNames::new(alloc, DEFAULT_NAMES)?;
@@ -74,25 +77,19 @@ where
     for output in outputs {
         output?;
     }
-    Ok(Balance {
-        name: site.name().to_string(alloc)?,
-        answered: site.answered(),
-        untraced: site.untraced(),
-        ended: site.ended(),
-        totals: served.desk.totals(),
-    })
+    Ok(site.balance(served.desk.totals()))
 }
 
-/// Asks for each service's health, and for carts, one after the other.
-fn ask<R>(rt: &R, alloc: Global, cart: u16, stock: u16) -> Result<()>
+/// Asks for the first service's health, and then for carts, one after the other. An item of the
+/// last cart is on a shelf that is locked.
+fn ask<R>(rt: &R, alloc: Global, cart: u16) -> Result<()>
 where
     R: Net<Listener = TcpListener, Stream = TcpStream>,
 {
-    customer::get(rt, alloc, stock, "/healthz")?;
+    customer::get(rt, alloc, cart, "/healthz")?;
     for _ in 0..CARTS {
         customer::get(rt, alloc, cart, "/cart")?;
     }
-    customer::get(rt, alloc, cart, "/healthz")?;
     Ok(())
 }
 
@@ -146,60 +143,56 @@ fn asked_for(rt: &HostRuntime) -> Result<Asked> {
     Ok(Asked::Requests(requests))
 }
 
+/// The port of the collector that the services export to, and the clock that their spans go by:
+/// the system's where the collector, which has to listen first, isn't this program's own.
+fn goal_of<R>(rt: R, alloc: Global, asked: Asked, own: u16) -> Result<(u16, ShopClock<R>)>
+where
+    R: Net<Listener = TcpListener, Stream = TcpStream> + Clock + Copy,
+{
+    match asked {
+        Asked::To(port) => {
+            wait_for_listener(&rt, port);
+            Ok((port, ShopClock::system(alloc, rt)?))
+        }
+        _ => Ok((own, ShopClock::of_steps(alloc)?)),
+    }
+}
+
 fn main(rt: HostRuntime) -> Result<()> {
     let alloc = rt.alloc();
     let asked = asked_for(&rt)?;
-    let collector = match asked {
-        Asked::To(_) => None,
-        _ => Some(Collector::start(&rt, alloc, Vec::new(alloc))?),
-    };
-    let to = match (asked, &collector) {
-        (Asked::To(port), _) => {
-            wait_for_listener(&rt, port);
-            port
-        }
-        (_, Some(collector)) => collector.port(),
-        _ => 0,
-    };
-    let clock = Arc::new(alloc, StepClock::new())?;
-    let stock = Site::listen(rt, alloc, "stock", Arc::try_clone(&clock)?)?;
+    let collector = Collector::start(&rt, alloc, Vec::new(alloc))?;
+    let (to, clock) = goal_of(rt, alloc, asked, collector.port())?;
+    let stock = Site::listen(rt, alloc, Name::Stock, clock.share()?)?;
     let stock = Arc::new(alloc, stock)?;
-    let cart = Arc::new(alloc, Site::listen(rt, alloc, "cart", clock)?)?;
+    let cart = Arc::new(alloc, Site::listen(rt, alloc, Name::Cart, clock)?)?;
 
     let site = Arc::try_clone(&stock)?;
     let stock_thread = thread::spawn(&rt, move || {
-        let work = StockWork {
-            site: Arc::try_clone(&site)?,
-        };
-        run(rt, alloc, to, &site, &work)
+        let work = StockWork { site };
+        run(to, &work.site, &work)
     })?;
-    let (site, port) = (Arc::try_clone(&cart)?, stock.port());
+    let (site, port) = (Arc::try_clone(&cart)?, stock.port);
     let cart_thread = thread::spawn(&rt, move || {
-        let work = CartWork {
-            site: Arc::try_clone(&site)?,
-            stock: port,
-        };
-        run(rt, alloc, to, &site, &work)
+        let work = CartWork { site, stock: port };
+        run(to, &work.site, &work)
     })?;
 
     match asked {
         Asked::Requests(requests) => {
-            println!(rt; "cart {} stock {}", cart.port(), stock.port())?;
+            println!(rt; "cart {} stock {port}", cart.port)?;
             wait_for(&rt, &cart, requests);
         }
-        _ => ask(&rt, alloc, cart.port(), stock.port())?,
+        _ => ask(&rt, alloc, cart.port)?,
     }
     cart.stop()?;
     let cart = cart_thread.join(&rt)?;
     stock.stop()?;
-    let stock = stock_thread.join(&rt)?;
-    let balances = [cart, stock];
-    match collector {
-        Some(collector) => {
-            let bodies = collector.stop(&rt)?;
-            write_report(&mut rt.stdout(), alloc, &bodies, &balances)
-        }
-        None => write_balances(&mut rt.stdout(), &balances),
+    let balances = [cart, stock_thread.join(&rt)?];
+    let bodies = collector.stop(&rt)?;
+    match asked {
+        Asked::To(_) => write_balances(&mut rt.stdout(), &balances),
+        _ => write_report(&mut rt.stdout(), alloc, &bodies, &balances),
     }
     .context("not all was printed")
 }

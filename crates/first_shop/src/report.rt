@@ -1,4 +1,5 @@
 //! What is printed.
+use crate::site::Name;
 use anyhow::{Context, Result, ensure};
 use otlp_read::{Request, Span, read_request};
 use std::alloc::Global;
@@ -18,7 +19,7 @@ const SPAN_KIND_SERVER: i32 = 2;
 /// What became of the requests and the spans of a service.
 #[derive(Drop)]
 pub struct Balance {
-    pub name: String,
+    pub name: Name,
     pub answered: u64,
     pub untraced: u64,
     pub ended: u64,
@@ -58,58 +59,14 @@ fn is_root(spans: &[&Span], span: &Span) -> bool {
     !spans.iter().any(is_parent)
 }
 
-/// Traces, one after the other.
-#[derive(Drop)]
-struct Traces<'a> {
-    /// The identifier of the last one.
-    last: &'a [u8],
-    /// How many of its spans are roots.
-    roots: usize,
-    /// How many there are.
-    count: usize,
-    /// How many before the last one are whole: they have one root.
-    whole: usize,
-}
-
-impl<'a> Traces<'a> {
-    /// How many are whole.
-    fn whole(&self) -> usize {
-        self.whole.saturating_add(usize::from(self.roots == 1))
-    }
-
-    /// Adds a span of the last trace, or of another one.
-    fn add(&mut self, trace_id: &'a [u8], is_root: bool) {
-        if self.count == 0 || trace_id != self.last {
-            self.whole = self.whole();
-            self.last = trace_id;
-            self.roots = 0;
-            self.count = self.count.saturating_add(1);
-        }
-        self.roots = self.roots.saturating_add(usize::from(is_root));
-    }
-}
-
-/// How many traces there are, and how many are whole: one span in each has its parent elsewhere, or
-/// none.
-fn count_traces(spans: &[&Span]) -> (usize, usize) {
-    let mut traces = Traces {
-        last: &[],
-        roots: 0,
-        count: 0,
-        whole: 0,
+/// How many traces they are of, if those of a trace are together.
+fn count_traces(spans: &[&Span]) -> usize {
+    let begins = |pair: &&[&Span]| {
+        let (before, span) = (pair[0], pair[1]);
+        before.trace_id != span.trace_id
     };
-    for &span in spans {
-        traces.add(span.trace_id.as_slice(), is_root(spans, span));
-    }
-    (traces.count, traces.whole())
-}
-
-/// How many of them are a server's.
-fn count_servers(spans: &[&Span]) -> usize {
-    spans
-        .iter()
-        .filter(|span| span.kind == SPAN_KIND_SERVER)
-        .count()
+    let more = spans.windows(2).filter(begins).count();
+    more.saturating_add(usize::from(!spans.is_empty()))
 }
 
 /// Whether a span is an error.
@@ -164,7 +121,7 @@ fn all_drops(drops: DropCounts) -> u64 {
 
 /// Writes what became of the spans of a service.
 fn write_balance<W: Write>(output: &mut W, balance: &Balance) -> Result<()> {
-    let (name, ended, totals) = (&balance.name, balance.ended, balance.totals);
+    let (name, ended, totals) = (balance.name.as_str(), balance.ended, balance.totals);
     let (dropped, lost, left) = (all_drops(totals.dropped), totals.lost, totals.left);
     let delivered = totals.handed.saturating_sub(lost);
     let sum = delivered
@@ -204,13 +161,18 @@ pub fn write_report<W: Write>(
 ) -> Result<()> {
     let requests = read_all(alloc, bodies)?;
     let spans = spans_of(alloc, &requests)?;
-    let (traces, whole) = count_traces(&spans);
-    let (count, servers) = (spans.len(), count_servers(&spans));
+    let (count, traces) = (spans.len(), count_traces(&spans));
+    let of_server = |span: &&&Span| span.kind == SPAN_KIND_SERVER;
+    let servers = spans.iter().filter(of_server).count();
+    let roots = spans.iter().filter(|span| is_root(&spans, span)).count();
     writeln!(
         output,
         "The collector took {count} spans, {servers} of them of a server, in {traces} traces."
     )?;
-    writeln!(output, "{whole} of the traces are whole. One of them:\n")?;
+    writeln!(
+        output,
+        "The traces have {roots} roots, and are whole if each has one. One of them:\n"
+    )?;
     write_trace(output, alloc, &spans)?;
     write_balances(output, balances)
 }

@@ -1,7 +1,11 @@
 //! A service on a port of loopback, whose threads serve one connection after the other.
-use crate::clock::{Reader, StepClock};
+use crate::clock::ShopClock;
+use crate::report::Balance;
+use crate::spans::{Counting, Spans};
 use anyhow::{Context, Result};
 use http_server::{Config, Connection, Service};
+use rand::make_rng;
+use rand::rngs::StdRng;
 use std::alloc::Global;
 use std::hash::RandomState;
 use std::io::{self, ErrorKind};
@@ -9,10 +13,14 @@ use std::net::{Ipv4Addr, Net, TcpListener, TcpStream};
 use std::random::RandomSource;
 use std::sync::Arc;
 use std::sync::atomic::{AtomicBool, AtomicU64, Ordering};
-use std::time::Duration;
-use trace_kit::processor::{BatchConfig, Clock};
-use trace_kit::queue::DeskConfig;
-use trace_kit::trace::{AlwaysOn, ParentBased, Provider, Resource, SpanContext, SpanLimits, Value};
+use std::thread;
+use std::time::{Clock, Duration};
+use trace_kit::processor::BatchConfig;
+use trace_kit::queue::{DeskConfig, Totals};
+use trace_kit::trace::{
+    AlwaysOn, EndPass, ParentBased, Provider, Resource, Scope, SpanData, SpanLimits,
+};
+use traced_http::server::{Handler, ServerName, TracedService, Tracing};
 
 /// How many threads a service has.
 pub const THREADS: usize = 4;
@@ -35,13 +43,26 @@ pub fn config() -> BatchConfig {
 /// What samples the spans: the parent, and without one each is sampled.
 pub type ShopSampler = ParentBased<AlwaysOn>;
 
-/// Whether the spans of a request are sampled: by the context of its own span, or by none where the
-/// request is untraced, so that each span in it is a root.
-pub fn is_sampled(parent: Option<&SpanContext>) -> bool {
-    match parent {
-        Some(context) => context.flags.sampled(),
-        None => true,
+/// The services of the shop.
+#[derive(Clone, Copy)]
+pub enum Name {
+    Cart,
+    Stock,
+}
+
+impl Name {
+    /// The name, as spans and what is printed have it.
+    pub fn as_str(self) -> &'static str {
+        match self {
+            Name::Cart => "cart",
+            Name::Stock => "stock",
+        }
     }
+}
+
+/// Works for so many milliseconds, as a database might.
+pub fn pause<R: Clock>(rt: &R, ms: u64) {
+    let _ = thread::sleep(rt, Duration::from_millis(ms));
 }
 
 /// What the threads of a service share.
@@ -49,10 +70,12 @@ pub fn is_sampled(parent: Option<&SpanContext>) -> bool {
 pub struct Site<R> {
     pub rt: R,
     pub alloc: Global,
-    name: String,
+    name: Name,
     listener: TcpListener,
-    port: u16,
-    clock: Arc<StepClock>,
+    /// The port that it listens on.
+    pub port: u16,
+    /// The clock that its spans start and end by.
+    pub clock: ShopClock<R>,
     is_stopped: AtomicBool,
     answered: AtomicU64,
     ended: AtomicU64,
@@ -61,7 +84,7 @@ pub struct Site<R> {
 
 impl<R> Site<R> {
     /// A service of this name, which listens on a port that was free.
-    pub fn listen(rt: R, alloc: Global, name: &str, clock: Arc<StepClock>) -> Result<Site<R>>
+    pub fn listen(rt: R, alloc: Global, name: Name, clock: ShopClock<R>) -> Result<Site<R>>
     where
         R: Net<Listener = TcpListener, Stream = TcpStream> + Copy,
     {
@@ -71,7 +94,7 @@ impl<R> Site<R> {
         Ok(Site {
             rt,
             alloc,
-            name: name.to_string(alloc)?,
+            name,
             listener,
             port,
             clock,
@@ -82,51 +105,31 @@ impl<R> Site<R> {
         })
     }
 
-    /// Its name.
-    pub fn name(&self) -> &str {
-        &self.name
-    }
-
-    /// The port that it listens on.
-    pub fn port(&self) -> u16 {
-        self.port
-    }
-
-    /// The clock that its spans start and end by.
-    pub fn clock(&self) -> Reader<'_> {
-        Reader { clock: &self.clock }
-    }
-
     /// What its spans are made with: the sampler, and the service's name.
     pub fn provider(&self) -> Result<Provider<ShopSampler>> {
-        let name = (
-            "service.name".to_string(self.alloc)?,
-            Value::text(self.alloc, &self.name)?,
-        );
-        let resource = Resource::new(self.alloc, vec![in self.alloc; name]?);
+        let resource = Resource::service(self.alloc, self.name.as_str())?;
         let resource = Arc::new(self.alloc, resource)?;
         let sampler = ParentBased::new(AlwaysOn);
         Ok(Provider::new(sampler, resource, SpanLimits::default()))
     }
 
-    /// Counts a request, and its span, which is going to end, if it is sampled, and gives the
-    /// request's number, from 1 on.
-    pub fn count_request(&self, is_sampled: bool) -> u64 {
-        self.count_span(is_sampled);
+    /// What a thread makes spans with.
+    pub fn spans<'a>(&self, provider: &'a Provider<ShopSampler>) -> Result<Spans<'a>>
+    where
+        R: RandomSource,
+    {
+        let scope = Arc::new(self.alloc, Scope::named(self.alloc, "first_shop")?)?;
+        Ok(Spans {
+            tracer: provider.tracer(scope),
+            rng: make_rng::<StdRng, R>(&self.rt)?,
+        })
+    }
+
+    /// Counts a request, and gives its number, from 1 on.
+    pub fn count_request(&self) -> u64 {
         self.answered
             .fetch_add(1, Ordering::SeqCst)
             .saturating_add(1)
-    }
-
-    /// Counts another span that is going to end, if it is sampled.
-    pub fn count_span(&self, is_sampled: bool) {
-        self.ended
-            .fetch_add(u64::from(is_sampled), Ordering::SeqCst);
-    }
-
-    /// Counts requests that were answered without a span.
-    pub fn count_untraced(&self, requests: u64) {
-        self.untraced.fetch_add(requests, Ordering::SeqCst);
     }
 
     /// How many requests were answered.
@@ -134,15 +137,15 @@ impl<R> Site<R> {
         self.answered.load(Ordering::SeqCst)
     }
 
-    /// How many of them have no span.
-    pub fn untraced(&self) -> u64 {
-        self.untraced.load(Ordering::SeqCst)
-    }
-
-    /// How many sampled spans have ended.
-    pub fn ended(&self) -> u64 {
-        let ended = self.ended.load(Ordering::SeqCst);
-        ended.saturating_sub(self.untraced())
+    /// What became of its requests and its spans, by the counts of its queue.
+    pub fn balance(&self, totals: Totals) -> Balance {
+        Balance {
+            name: self.name,
+            answered: self.answered(),
+            untraced: self.untraced.load(Ordering::SeqCst),
+            ended: self.ended.load(Ordering::SeqCst),
+            totals,
+        }
     }
 
     /// Ends the service once its threads have served the connections that they have.
@@ -158,8 +161,39 @@ impl<R> Site<R> {
         Ok(())
     }
 
+    /// Answers requests within spans, which end on the pass, until the service is stopped.
+    pub fn serve_traced<'a, P, H>(
+        &'a self,
+        provider: &'a Provider<ShopSampler>,
+        handler: H,
+        pass: &'a mut P,
+    ) -> Result<()>
+    where
+        R: RandomSource + Clock + Copy,
+        P: EndPass<SpanData>,
+        H: Handler<Counting<'a, P>> + Drop,
+    {
+        let Spans { tracer, rng } = self.spans(provider)?;
+        let tracing = Tracing {
+            tracer,
+            rng,
+            clock: self.clock.share()?,
+            server: ServerName {
+                address: "localhost",
+                port: self.port,
+            },
+        };
+        let ended = &self.ended;
+        let mut pass = Counting { pass, ended };
+        let mut service = TracedService::new(self.alloc, tracing, handler, &mut pass);
+        let served = self.serve(&mut service);
+        self.untraced
+            .fetch_add(service.untraced(), Ordering::SeqCst);
+        served.context("the service can't listen any more")
+    }
+
     /// Serves one connection after the other, until the service is stopped.
-    pub fn serve<S: Service>(&self, service: &mut S) -> io::Result<()>
+    fn serve<S: Service>(&self, service: &mut S) -> io::Result<()>
     where
         R: RandomSource,
     {

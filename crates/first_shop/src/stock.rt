@@ -1,25 +1,24 @@
 //! The service that knows how much there is of an item.
-use crate::clock::Reader;
-use crate::site::{ShopSampler, Site, is_sampled};
-use anyhow::{Context, Result};
+use crate::site::{Site, pause};
+use crate::spans::{Spans, start_in};
+use anyhow::Result;
 use bytes::{BufMut, Bytes};
 use http::{Request, StatusCode};
 use http_server::Response;
-use rand::make_rng;
-use rand::rngs::StdRng;
-use std::alloc::{AllocError, Global};
+use std::alloc::AllocError;
 use std::net::{Net, TcpListener, TcpStream};
 use std::random::RandomSource;
 use std::sync::Arc;
-use trace_kit::processor::{Clock, ServicePass, Work};
-use trace_kit::trace::{
-    EndPass, KeyValue, Kind, Scope, Span, SpanContext, SpanData, SpanExt, SpanRequest, Tracer,
-    start_span,
-};
-use traced_server::{Handler, Origin, RequestSpan, ServerName, TracedService, Tracing};
+use std::time::Clock;
+use trace_kit::processor::{ServicePass, Work};
+use trace_kit::trace::{EndPass, KeyValue, Kind, SpanContext, SpanData, ThreadTrace, ThreadTracer};
+use traced_http::server::{Handler, Origin, RequestSpan};
 
 /// Every so many items, one is on a shelf that is locked.
 const LOCKED: u64 = 4;
+
+/// How long a look takes, in milliseconds.
+const LOOK_MS: u64 = 2;
 
 /// The number of the item that a path asks for.
 fn item_in(path: &str) -> Option<u64> {
@@ -35,74 +34,41 @@ fn count_of(item: u64) -> Option<u64> {
     }
 }
 
-/// Answers `GET /stock/ID` and `GET /healthz`.
+/// Answers `GET /stock/ID`.
 #[derive(Drop)]
-struct Stock<'s, 't, R> {
-    site: &'s Site<R>,
-    tracer: Tracer<'t, ShopSampler>,
-    rng: StdRng,
+struct Stock<'a, R> {
+    site: Arc<Site<R>>,
+    spans: Spans<'a>,
 }
 
-/// Says what a look-up did, as far as there is memory for it.
-fn describe(span: &mut Span, clock: Reader<'_>, item: u64, count: Option<u64>) {
-    let number = i64::try_from(item).unwrap_or(0);
-    let _ = span.set("stock.item", number);
-    let _ = span.event("cache miss", clock.now(), &[]);
+/// Looks an item up, in a span of its own.
+fn look_up(
+    trace: &mut impl ThreadTrace,
+    parent: Option<&SpanContext>,
+    rt: &impl Clock,
+    item: u64,
+) -> Option<u64> {
+    let mut span = start_in(trace, parent, "look up item", Kind::Internal);
+    span.set("stock.item", item);
+    span.event("cache miss", trace.now(), &[]);
+    pause(rt, LOOK_MS);
+    let count = count_of(item);
+    let at = trace.now();
     match count {
-        Some(_) => {
-            let rows = [KeyValue::new("rows", &1)];
-            let _ = span.event("row read", clock.now(), &rows);
-        }
+        Some(_) => span.event("row read", at, &[KeyValue::new("rows", &1)]),
         None => {
-            let _ = span.exception("ShelfLocked", "the shelf is locked", "", clock.now(), &[]);
-            let _ = span.set_error("the shelf is locked");
+            span.exception("ShelfLocked", "the shelf is locked", "", at, &[]);
+            span.set_error("the shelf is locked");
         }
     }
+    trace.end(span);
+    count
 }
 
-impl<R> Stock<'_, '_, R> {
-    /// Looks an item up, in a span of its own.
-    fn look_up<P: EndPass<SpanData>>(
-        &mut self,
-        item: u64,
-        parent: Option<&SpanContext>,
-        pass: &mut P,
-    ) -> Option<u64> {
-        let clock = self.site.clock();
-        let asked = SpanRequest {
-            name: "look up item",
-            kind: Kind::Internal,
-            parent,
-            attributes: &[],
-            links: &[],
-        };
-        let started = start_span(
-            &self.tracer,
-            self.site.alloc,
-            &mut self.rng,
-            &asked,
-            clock.now(),
-        );
-        let count = count_of(item);
-        if let Ok(mut span) = started {
-            describe(&mut span, clock, item, count);
-            span.end(pass, clock.now());
-            self.site.count_span(is_sampled(parent));
-        }
-        count
-    }
-}
-
-impl<R, P: EndPass<SpanData>> Handler<P> for Stock<'_, '_, R> {
+impl<R: Clock + Copy, P: EndPass<SpanData>> Handler<P> for Stock<'_, R> {
     fn route(&self, request: &Request<Bytes>) -> Option<&str> {
-        let path = request.uri().path();
-        if path == "/healthz" {
-            return Some("/healthz");
-        }
-        match item_in(path) {
-            Some(_) => Some("/stock/{id}"),
-            None => None,
-        }
+        item_in(request.uri().path())?;
+        Some("/stock/{id}")
     }
 
     fn handle<O: Origin>(
@@ -112,18 +78,17 @@ impl<R, P: EndPass<SpanData>> Handler<P> for Stock<'_, '_, R> {
         pass: &mut P,
         response: &mut Response,
     ) -> Result<(), AllocError> {
-        self.site.count_request(is_sampled(span.context()));
-        let path = request.uri().path();
-        if path == "/healthz" {
-            return response.body.put_slice(b"ok\n");
-        }
-        let Some(item) = item_in(path) else {
+        self.site.count_request();
+        let Some(item) = item_in(request.uri().path()) else {
             response.status = StatusCode::NOT_FOUND;
             return Ok(());
         };
-        match self.look_up(item, span.context(), pass) {
+        let (rng, clock) = (self.spans.rng(), self.site.clock.share()?);
+        let alloc = self.site.alloc;
+        let mut trace = ThreadTracer::new(&self.spans.tracer, alloc, rng, clock, pass);
+        match look_up(&mut trace, span.context(), &self.site.rt, item) {
             Some(count) => {
-                let text = format!(in self.site.alloc; "item {item}: {count} left\n")?;
+                let text = format!(in alloc; "item {item}: {count} left\n")?;
                 response.body.put_slice(text.as_bytes())
             }
             None => {
@@ -142,33 +107,18 @@ pub struct StockWork<R> {
 
 impl<R> Work for StockWork<R>
 where
-    R: Net<Listener = TcpListener, Stream = TcpStream> + RandomSource + Copy,
+    R: Net<Listener = TcpListener, Stream = TcpStream> + RandomSource + Clock + Copy,
 {
     type Output = Result<()>;
 
     fn work<P: ServicePass>(&self, _thread: usize, pass: &mut P) -> Result<()> {
         let site: &Site<R> = &self.site;
         let provider = site.provider()?;
-        let tracing = Tracing {
-            tracer: provider.tracer(scope(site.alloc)?),
-            rng: make_rng::<StdRng, R>(&site.rt)?,
-            clock: site.clock(),
-            server: ServerName {
-                address: "localhost",
-                port: site.port(),
-            },
+        let spans = site.spans(&provider)?;
+        let handler = Stock {
+            site: Arc::try_clone(&self.site)?,
+            spans,
         };
-        let tracer = provider.tracer(scope(site.alloc)?);
-        let rng = make_rng::<StdRng, R>(&site.rt)?;
-        let handler = Stock { site, tracer, rng };
-        let mut service = TracedService::new(site.alloc, tracing, handler, pass);
-        let served = site.serve(&mut service);
-        site.count_untraced(service.untraced());
-        served.context("the service can't listen any more")
+        site.serve_traced(&provider, handler, pass)
     }
-}
-
-/// The scope of all spans of the program.
-pub fn scope(alloc: Global) -> Result<Arc<Scope>> {
-    Ok(Arc::new(alloc, Scope::named(alloc, "first_shop")?)?)
 }

@@ -1,5 +1,5 @@
 -- What a clause reads of a connection.
-use Rattle.std.specs.Prelude.{◌≡◌, ◌⊎◌, ◌<◌, ℕ, ◌+◌, ◌*◌, Bool, true, false, not, List, length}
+use Rattle.std.specs.Prelude.{◌≡◌, ◌⊎◌, ◌<◌, ℕ, ◌+◌, ◌*◌, Bool, true, false, not, List, [], length}
 use Rattle.std.specs.Prelude.{nat_lt, vec_capacity, ◌==◌, if◌then◌else◌}
 use Rattle.http.specs.declared.request.Parts.{Parts}
 use Rattle.http.specs.Request.{head_of}
@@ -66,6 +66,10 @@ phase_at At.Aborted ended unread waits = Done
 -- the phase of a connection
 abbrev pub phase_of : {P : Type 0} → Connection P → Phase
 phase_of c = phase_at c.stage c.ended (length c.input.bytes.items) (length (pending_of c))
+
+-- While a connection waits for a request of which nothing has come, it holds no block of input.
+abbrev pub HoldsNoBlock : {P : Type 0} → Connection P → Type 0
+HoldsNoBlock c = c.stage ≡ At.Head → c.input.bytes.items ≡ [] → c.input.room ≡ 0
 
 -- it is to be read
 abbrev pub reads_at : {P : Type 0} → Stage P → Bool → ℕ → Bool

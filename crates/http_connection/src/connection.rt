@@ -72,7 +72,7 @@ pub(crate) fn blank_request(alloc: Global, keys: RandomState) -> Request<Bytes> 
 impl<P> Connection<P> {
     ghost use Rattle.http_connection.specs.Connections.{pending_of, held_of, phase_of, place_of};
     ghost use Rattle.http_connection.specs.Connections.{wants_advance_of, wants_read_of};
-    ghost use Rattle.http_connection.specs.Connections.{is_aborted};
+    ghost use Rattle.http_connection.specs.Connections.{HoldsNoBlock, Rests, is_aborted};
     ghost use Rattle.http_connection.specs.Runs.{Place};
 
     /// A connection on which nothing has come. It takes no memory. The client chooses the names of
@@ -156,8 +156,10 @@ impl<P> Connection<P> {
     ///
     /// # Errors
     ///
-    /// Those of the reader, and refused memory; nothing was read then.
+    /// Those of the reader, and refused memory; nothing was read then, and no block of input is held
+    /// while nothing has come of a request.
     pub fn read_from<R: Read>(&mut self, reader: &mut R) -> io::Result<usize>
+        ensures idle { OnErr result (HoldsNoBlock self.new) }
         ensures pending { pending_of self.new ≡ pending_of self.old }
         ensures place { place_of self.new ≡ place_of self.old }
         ensures aborted { is_aborted self.new ≡ is_aborted self.old }
@@ -166,9 +168,29 @@ impl<P> Connection<P> {
         if self.ended {
             return Ok(0);
         }
-        let count = self.input.read_from(reader)?;
+        let read = self.input.read_from(reader);
+        if read.is_err() {
+            self.rest();
+        }
+        let count = read?;
         self.ended = count == 0;
         Ok(count)
+    }
+
+    /// Gives back the block of input where nothing has come.
+    pub(crate) fn rest(&mut self)
+        ensures idle { HoldsNoBlock self.new }
+        ensures stage { self.new.stage ≡ self.old.stage }
+        ensures request { self.new.request ≡ self.old.request }
+        ensures body { self.new.body ≡ self.old.body }
+        ensures output { self.new.output ≡ self.old.output }
+        ensures limits { self.new.limits ≡ self.old.limits }
+        ensures rests { Rests self.old → Rests self.new }
+    {
+        if !matches!(self.stage, Stage::Head) || !self.input.bytes.is_empty() {
+            return;
+        }
+        self.input.release(self.alloc);
     }
 
     /// Writes once.
@@ -193,7 +215,7 @@ impl<P> Connection<P> {
 }
 
 impl<P: Pieces + Drop> Connection<P> {
-    ghost use Rattle.http_connection.specs.Connections.{NeverStalls, RunsOn};
+    ghost use Rattle.http_connection.specs.Connections.{HoldsNoBlock, NeverStalls, RunsOn};
 
     /// Answers what has come, and writes one more piece where less than 64 KiB wait to be written.
     /// `room` bytes may still be pending beside those that it holds.
@@ -205,6 +227,7 @@ impl<P: Pieces + Drop> Connection<P> {
         ensures runs { RunsOn S.answers P.writes service.old self.old service.new self.new }
         ensures limits { self.new.limits ≡ self.old.limits }
         ensures rests { NeverStalls self.new }
+        ensures idle { HoldsNoBlock self.new }
     {
         let mut spans = [EMPTY_HEADER_SPAN; MAX_FIELDS];
         let budget = self.held().saturating_add(room);

@@ -40,7 +40,8 @@ impl Input {
 
     /// Gives back the block.
     pub(crate) fn release(&mut self, alloc: Global)
-        ensures { self.new.bytes.items ≡ [] }
+        ensures bytes { self.new.bytes.items ≡ [] }
+        ensures room { self.new.room ≡ 0 }
     {
         self.bytes = BytesMut::new(alloc);
         self.room = 0;

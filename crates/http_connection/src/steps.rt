@@ -584,21 +584,6 @@ impl<P: Pieces + Drop> Connection<P> {
         }
     }
 
-    /// Gives back the block of input where nothing has come.
-    pub(crate) fn rest(&mut self)
-        ensures stage { self.new.stage ≡ self.old.stage }
-        ensures request { self.new.request ≡ self.old.request }
-        ensures body { self.new.body ≡ self.old.body }
-        ensures output { self.new.output ≡ self.old.output }
-        ensures limits { self.new.limits ≡ self.old.limits }
-        ensures rests { Rests self.old → Rests self.new }
-    {
-        if !matches!(self.stage, Stage::Head) || !self.input.bytes.is_empty() {
-            return;
-        }
-        self.input.release(self.alloc);
-    }
-
     /// Gives back what a request holds.
     fn release_request(&mut self)
         ensures stage { self.new.stage ≡ self.old.stage }

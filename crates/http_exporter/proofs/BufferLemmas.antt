@@ -2,7 +2,7 @@
 use Rattle.std.proofs.Common.{◌≡◌, ◌<◌, ℕ, zero, suc, [], ◌∷◌, List, take, drop, length, arith, sym}
 use Rattle.std.proofs.Common.{subst, min, take-append-drop, refl}
 use Rattle.std.proofs.KnownBytes.{prepend_known-read}
-use Rattle.std.specs.Prelude.{Option}
+use Rattle.std.specs.Prelude.{Option, Some, None}
 use Rattle.std.specs.Io.KnownBytes.{Consumes, IsAtEnd, Keeps, prepend_known}
 
 -- where no byte is given to some room, none was in the buffer
@@ -35,3 +35,9 @@ given_front old left unread before after n kept end count room bytes =
         of_none : (n : ℕ) → drop {A = ℕ} n [] ≡ []
         of_none zero = refl
         of_none (suc n) = refl
+
+-- Where the buffer is empty and no byte is left below, none is left.
+pub at_end : (unread : List ℕ) (left : Option (List ℕ)) → unread ≡ [] → IsAtEnd left
+    → IsAtEnd (prepend_known unread left)
+at_end unread None empty end = tt
+at_end unread (Some bytes) empty end = rw (empty, end) refl

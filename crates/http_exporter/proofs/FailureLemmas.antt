@@ -1,15 +1,16 @@
 -- What is said of a failure.
 use Rattle.std.proofs.Common.{◌≡◌, ◌≢◌, refl, ap, arith, length, ℕ, ℤ, pos, int_lt, List, [], ◌∷◌}
 use Rattle.std.proofs.Common.{◌++◌, Bool, true, false, if◌then◌else◌, Option, Some, None, IsSome}
-use Rattle.std.proofs.Common.{Result, Ok, Err}
+use Rattle.std.proofs.Common.{Result, Ok, Err, sym, ◌∙◌, append-nil, append_assoc}
 use Rattle.std.specs.Str.{IsUtf8, is_utf8}
 use Rattle.std.proofs.lemmas.Str.{IsUtf8-from_is_utf8}
-use Rattle.model_message.specs.Reading.{Fault}
+use Rattle.model_message.specs.Reading.{Fault, bad_utf8}
 use Rattle.model_message.specs.Tables
-use Rattle.model_message.specs.Messages.{meaning, read}
+use Rattle.model_message.specs.Tables.{◌▸◌}
+use Rattle.model_message.specs.Messages.{meaning, read, utf8}
 use Rattle.model_message.specs.Wire.{row}
-use Rattle.model_retry.specs.Retries.{Outcome, delivered}
-use Rattle.otlp_wire.specs.Response.{row_faults, rejected_in, partial_row}
+use Rattle.model_desk.specs.Retries.{Outcome, delivered}
+use Rattle.otlp_wire.specs.Response.{message_text, row_faults, rejected_in, partial_row}
 use Rattle.http_wire.specs.declared.fault.HttpFault.{HttpFault}
 use Rattle.otlp_http.specs.Outcomes.{is_success, taken_by, outcome_of, outcome_of_body}
 use Rattle.otlp_http.specs.Outcomes.{outcome_of_reply}
@@ -31,7 +32,18 @@ no_text bytes none = by_case (is_utf8 bytes) (λ text. none (IsUtf8-from_is_utf8
     by_case true other = absurd (other refl)
     by_case false other = refl
 
--- ---- what isn't delivered has failed
+-- A message that isn't UTF-8 makes a batch one that was delivered.
+pub not_in_part : (message : List ℕ) (part : Outcome) → (IsUtf8 message → ⊥)
+    → delivered ≡ (if is_utf8 message then part else delivered)
+not_in_part message part none =
+    by_case (is_utf8 message) (λ text. none (IsUtf8-from_is_utf8 message text))
+  where
+    by_case : (is_text : Bool) → (is_text ≡ true → ⊥)
+        → delivered ≡ (if is_text then part else delivered)
+    by_case true other = absurd (other refl)
+    by_case false other = refl
+
+-- ---- what a body says that was taken
 
 first_none : (a b : List Fault) → a ++ b ≡ [] → a ≡ []
 first_none [] b e = refl
@@ -51,6 +63,62 @@ no_row_fault body e =
     first_none (partial_row (row body).value).faults _
     (first_none _ _ (rest_none (row body).faults _ e)) in
     rw (rows, parts) refl
+
+-- The faults of a response are those of its fields, and then the one of its message.
+faults_with_message : (body : List ℕ) → (meaning Tables.response body).faults
+    ≡ row_faults body ++ (utf8 (message_text (meaning Tables.response body).value)).faults
+unfolding meaning read
+faults_with_message body = simp (append-nil, append_assoc) refl
+
+faults_of : (body : List ℕ) (rejected : ℤ) (message : List ℕ)
+    → (meaning Tables.response body).value ≡ ((rejected ▸ message ▸ tt) ▸ tt)
+    → row_faults body ≡ [] → (meaning Tables.response body).faults ≡ (utf8 message).faults
+faults_of body rejected message is whole =
+    faults_with_message body
+    ∙ ap (λ l. l ++ (utf8 (message_text (meaning Tables.response body).value)).faults) whole
+    ∙ ap (λ v. (utf8 (message_text v)).faults) is
+
+-- A response that rejects spans is one of a batch that was taken in part, where its message is
+-- UTF-8, and else has no reading.
+pub taken_in_part : (body : List ℕ) (rejected : ℤ) (message : List ℕ)
+    → (meaning Tables.response body).value ≡ ((rejected ▸ message ▸ tt) ▸ tt)
+    → row_faults body ≡ [] → int_lt (pos 0) rejected ≡ true
+    → (if is_utf8 message then Outcome.partial rejected else delivered)
+    ≡ outcome_of_body (Ok body)
+taken_in_part body rejected message is whole above =
+    sym (ap (λ faults. taken_by faults (rejected_in (meaning Tables.response body).value))
+    (faults_of body rejected message is whole)
+    ∙ ap (λ v. taken_by (utf8 message).faults (rejected_in v)) is
+    ∙ by_text (is_utf8 message))
+  where
+    by_text : (is_text : Bool)
+        → taken_by (if is_text then [] else bad_utf8 ∷ []) rejected
+        ≡ (if is_text then Outcome.partial rejected else delivered)
+    by_text true = rw above refl
+    by_text false = refl
+
+-- One that rejects none is one of a batch that was taken whole.
+pub taken_whole : (body : List ℕ) (rejected : ℤ) (message : List ℕ)
+    → (meaning Tables.response body).value ≡ ((rejected ▸ message ▸ tt) ▸ tt)
+    → int_lt (pos 0) rejected ≡ false → delivered ≡ outcome_of_body (Ok body)
+taken_whole body rejected message is none =
+    sym (ap (λ v. taken_by (meaning Tables.response body).faults (rejected_in v)) is
+    ∙ by_faults (meaning Tables.response body).faults)
+  where
+    by_faults : (faults : List Fault) → taken_by faults rejected ≡ delivered
+    by_faults [] = rw none refl
+    by_faults (fault ∷ faults) = refl
+
+-- So is one with a fault in its fields.
+pub taken_faulty : (body : List ℕ) → row_faults body ≢ [] → delivered ≡ outcome_of_body (Ok body)
+taken_faulty body faulty = sym (by_faults (meaning Tables.response body).faults refl)
+  where
+    by_faults : (faults : List Fault) → (meaning Tables.response body).faults ≡ faults
+        → taken_by faults (rejected_in (meaning Tables.response body).value) ≡ delivered
+    by_faults [] none = absurd (faulty (no_row_fault body none))
+    by_faults (fault ∷ faults) some = refl
+
+-- ---- what isn't delivered has failed
 
 -- this is delivered, or something failed
 abbrev pub HasFailed : Outcome → Option Failure → Type 0

@@ -1,7 +1,7 @@
 -- Attempts over a link that is kept.
 use Rattle.std.proofs.Common.{◌≡◌, ℕ, Bool, false, List, if◌then◌else◌, refl, sym, ap, subst, ◌∙◌}
 use Rattle.std.proofs.Common.{Option, Some, None}
-use Rattle.model_retry.specs.Retries.{Outcome, no_reply}
+use Rattle.model_desk.specs.Retries.{Outcome, no_reply}
 use Rattle.otlp_http.specs.Request.{text_for}
 use Rattle.otlp_http.specs.declared.request.Connection.TheVariants.{KeepAlive}
 use Rattle.http_exporter.specs.declared.failure.Failure.{Failure}

@@ -1,9 +1,9 @@
 -- An attempt to send a body over a link. (OTLP Specification, OTLP/HTTP; a link an attempt, and the
 -- outcome of a stopped request: profile)
-use Rattle.std.specs.Prelude.{◌≡◌, ℕ, ◌<◌, Bool, true, false, List, length, take, Option, Some}
-use Rattle.std.specs.Prelude.{None, Result, Ok, Err}
+use Rattle.std.specs.Prelude.{◌≡◌, ℕ, ◌-◌, ◌^◌, ◌<◌, ◌≤◌, Bool, true, false, List, length, take}
+use Rattle.std.specs.Prelude.{Option, Some, None, Result, Ok, Err, IsOk}
 use Rattle.std.specs.Io.KnownBytes.{Appends}
-use Rattle.model_retry.specs.Retries.{Outcome, no_reply}
+use Rattle.model_desk.specs.Retries.{Outcome, no_reply}
 use Rattle.http_wire.specs.declared.fault.HttpFault.{HttpFault}
 use Rattle.http_wire.specs.declared.limits.HeadLimits.{HeadLimits}
 use Rattle.otlp_http.specs.Address.{Address}
@@ -114,3 +114,8 @@ abbrev pub Attempts : {Dial Link : Type 0}
 Attempts dials shown old body outcome new =
     IsAttempt dials shown body old new outcome
     × (new ≡ record old { dial = new.dial; last_failure = new.last_failure })
+
+-- Nothing has to be made ready for attempts: there is room for any number of them, of any body.
+abbrev pub NeedsNothing : {State T E : Type 0} → Result T E → State → State → ℕ → ℕ → Type 0
+NeedsNothing answer old new size attempts =
+    IsOk answer × (new ≡ old) × ((len : ℕ) → len ≤ size → attempts ≤ 2 ^ 32 - 1)

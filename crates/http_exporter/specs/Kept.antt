@@ -2,7 +2,7 @@
 -- profile)
 use Rattle.std.specs.Prelude.{◌≡◌, ℕ, Bool, true, false, if◌then◌else◌, List, Option, Some, None}
 use Rattle.std.specs.Prelude.{Result, Ok, Err}
-use Rattle.model_retry.specs.Retries.{Outcome, no_reply}
+use Rattle.model_desk.specs.Retries.{Outcome, no_reply}
 use Rattle.http_wire.specs.declared.fault.HttpFault.{HttpFault}
 use Rattle.http_wire.specs.declared.limits.HeadLimits.{HeadLimits}
 use Rattle.http_wire.specs.Devices.{HasFailed}
@@ -54,18 +54,24 @@ pub data IsKeptPost {Link : Type 0} (shown : Shown Link) (limits : HeadLimits)
       → outcome ≡ outcome_after_a_stop answer → failure ≡ failure_after_a_stop answer
       → IsKeptPost shown limits reads_after_a_stop text old new outcome failure lasts
 
+-- The link that was kept, if it is ready for another request.
+pub data IsReady {Link : Type 0} (renews : Link → Bool → Link → Type 0)
+    (kept ready : Option Link) : Type 0 where
+  renewed : (before after : Link) → kept ≡ Some before → renews before true after
+      → ready ≡ Some after → IsReady renews kept ready
+  spent : (before after : Link) → kept ≡ Some before → renews before false after
+      → ready ≡ None → IsReady renews kept ready
+  absent : kept ≡ None → ready ≡ None → IsReady renews kept ready
+
 -- Where the link of an attempt comes from: it is the one that was kept, if that is ready for
 -- another request, and else a fresh one, if one can be had.
 pub data GetsLink {Dial Link : Type 0}
     (dials : Dial → List ℕ → ℕ → Option Link → Dial → Type 0)
     (renews : Link → Bool → Link → Type 0)
     (old : Keeping Dial Link) (dial : Dial) (link : Option Link) : Type 0 where
-  kept : (before after : Link) → old.link ≡ Some before → renews before true after
-      → link ≡ Some after → dial ≡ old.exporter.dial → GetsLink dials renews old dial link
-  redialed : (before after : Link) → old.link ≡ Some before → renews before false after
-      → dials old.exporter.dial old.exporter.target.host old.exporter.target.port link dial
-      → GetsLink dials renews old dial link
-  dialed : old.link ≡ None
+  kept : (ready : Link) → IsReady renews old.link (Some ready) → link ≡ Some ready
+      → dial ≡ old.exporter.dial → GetsLink dials renews old dial link
+  dialed : IsReady renews old.link None
       → dials old.exporter.dial old.exporter.target.host old.exporter.target.port link dial
       → GetsLink dials renews old dial link
 

@@ -5,7 +5,7 @@ ghost use Rattle.std.specs.Io.{ReadsAtMost};
 ghost use Rattle.std.specs.Io.KnownBytes.{Consumes, IsAtEnd, Keeps, prepend_known};
 ghost use Rattle.http_wire.specs.Devices.{CountsFailure};
 
-use crate::kept_link::KeptLink;
+use crate::kept_link::{KeptLink, PeekLink};
 use otlp_http::{DeviceFailed, FaultRead, FaultWrite};
 use std::marker::Model;
 
@@ -161,5 +161,12 @@ impl<L: KeptLink> KeptLink for Buffered<L> {
 
     fn renew(&mut self) -> bool {
         self.unread().is_empty() && self.link.renew()
+    }
+}
+
+impl<L: KeptLink> PeekLink for Buffered<L> {
+    fn peek(&mut self) -> Result<bool, DeviceFailed> {
+        self.refill()?;
+        Ok(!self.unread().is_empty())
     }
 }

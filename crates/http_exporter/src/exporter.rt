@@ -1,28 +1,28 @@
 //! An exporter that posts each body over a link of its own.
 
-ghost use Rattle.std.specs.Prelude.{◌≡◌, ◌≢◌, ◌≤◌, ◌^◌, ◌-◌, ℕ, true, false, IsOk, IsSome, Option};
+ghost use Rattle.std.specs.Prelude.{◌≡◌, ◌≢◌, ◌≤◌, true, false, IsSome, Option};
 ghost use Rattle.std.specs.Prelude.{Some, None, Result};
 ghost use Rattle.std.specs.Option.{option_copied};
 ghost use Rattle.std.specs.Result.{result_map_both};
 ghost use Rattle.retry_core.specs.Retries.{outcome_view};
-ghost use Rattle.model_retry.specs.Retries.{delivered};
+ghost use Rattle.model_desk.specs.Retries.{delivered};
 ghost use Rattle.otlp_http.specs.Outcomes.{reply_view};
 ghost use Rattle.otlp_http.specs.Request.{request_text, text_for};
 ghost use Rattle.otlp_http.specs.Replies.{HttpReply};
 ghost use Rattle.http_wire.specs.declared.fault.HttpFault.{HttpFault};
 ghost use Rattle.http_exporter.specs.declared.failure.Failure.{Failure};
 ghost use Rattle.http_exporter.specs.Failures.{failure_after_a_stop, AreKept, IsLast};
-ghost use Rattle.http_exporter.specs.Attempts.{shown, IsAnswer, IsAttempt, IsPosted};
-ghost use Rattle.http_exporter.specs.Attempts.{outcome_after_a_stop};
+ghost use Rattle.http_exporter.specs.Attempts.{shown, Attempts, IsAnswer, IsAttempt, IsPosted};
+ghost use Rattle.http_exporter.specs.Attempts.{NeedsNothing, outcome_after_a_stop};
 ghost use Rattle.http_exporter.specs.Kept.{IsKeptAnswer, IsKeptPost};
 
 use crate::dial::Dial;
-use crate::failure::{Failure, failure_of};
+use crate::failure::{Failure, met_by};
 use crate::front::send;
 use crate::reports::ReportsFailure;
 use otlp_http::{
     Connection, FaultRead, FaultWrite, HeadLimits, HttpFault, LastingReply, Reply, Target,
-    outcome_of, read_lasting_reply, read_reply,
+    read_lasting_reply, read_reply,
 };
 use otlp_ids::OutOfMemory;
 use retry_core::Outcome;
@@ -132,7 +132,7 @@ impl<D, A: Allocator + Copy> LinkExporter<D, A> {
     }
 
     /// Posts a body over this link: writes its request, reads the reply, and answers what that
-    /// means (see [`outcome_of`]). A link that takes all that it is given gets the head together
+    /// means (see [`outcome_of`](otlp_http::outcome_of)). A link that takes all that it is given gets the head together
     /// with the beginning of the body, 1,024 bytes at most, and then the rest of the body, which is
     /// not copied.
     ///
@@ -166,7 +166,7 @@ impl<D, A: Allocator + Copy> LinkExporter<D, A> {
         match send(link, &self.target, Connection::Close, body) {
             Ok(()) => {
                 let reply = self.read(link);
-                (outcome_of(&reply), failure_of(&reply))
+                met_by(&reply)
             }
             Err(_) if self.reads_after_a_stop => self.read_after_a_stop(link),
             Err(_) => (Outcome::NoReply, Some(Failure::WriteStopped)),
@@ -206,12 +206,13 @@ impl<D, A: Allocator + Copy> LinkExporter<D, A> {
     {
         match read_lasting_reply(self.alloc, self.global, link, &self.limits) {
             Ok(LastingReply { reply, lasts }) => {
-                let reply = Ok(reply);
-                (outcome_of(&reply), failure_of(&reply), lasts)
+                let (outcome, failure) = met_by(&Ok(reply));
+                (outcome, failure, lasts)
             }
             Err(fault) => {
                 let none: Result<Reply<A>, HttpFault> = Err(fault);
-                (outcome_of(&none), failure_of(&none), false)
+                let (outcome, failure) = met_by(&none);
+                (outcome, failure, false)
             }
         }
     }
@@ -231,7 +232,7 @@ impl<D, A: Allocator + Copy> LinkExporter<D, A> {
         if reply.is_err() {
             return (Outcome::NoReply, Some(Failure::WriteStopped));
         }
-        (outcome_of(&reply), failure_of(&reply))
+        met_by(&reply)
     }
 
     /// Reads a reply.
@@ -304,24 +305,17 @@ impl<D: Dial, A: Allocator + Copy> Exporter for LinkExporter<D, A> {
     /// Nothing has to be made ready: there is room for any number of attempts of any body. It takes
     /// no memory, and is never refused.
     fn prepare(&mut self, size: usize, attempts: u32) -> Result<(), OutOfMemory>
-        ensures ready { IsOk result }
-        ensures unchanged { self.new ≡ self.old }
-        ensures room { (len : ℕ) → len ≤ size → attempts ≤ 2 ^ 32 - 1 }
+        ensures ready { NeedsNothing result self.old self.new size attempts }
     {
         Ok(())
     }
 
     /// Attempts to send the body, as [`LinkExporter::attempt`] does: the numbers go nowhere.
     fn export(&mut self, _number: u64, _attempt: u32, body: &[u8]) -> Outcome
-        ensures outcome { IsAttempt D.dials
-            (shown D.Link.contents D.Link.remaining
+        ensures outcome { Attempts D.dials (shown D.Link.contents D.Link.remaining
             D.Link.FaultWrite.failures D.Link.FaultRead.failures)
-            body.now self.old self.new (outcome_view result) }
+            self.old body.now (outcome_view result) self.new }
         ensures failed { outcome_view result ≢ delivered → IsSome self.new.last_failure }
-        ensures others { self.new ≡ record self.old {
-          dial = self.new.dial;
-          last_failure = self.new.last_failure;
-        } }
     {
         self.attempt(body)
     }

@@ -1,14 +1,21 @@
 //! What an attempt met that didn't deliver its batch.
 
-ghost use Rattle.std.specs.Prelude.{◌≡◌, ◌==◌, length};
+ghost use Rattle.std.specs.Prelude.{◌≡◌, ◌==◌, if◌then◌else◌, length, Ok, Some};
 ghost use Rattle.std.specs.Result.{result_map_both};
-ghost use Rattle.otlp_http.specs.Outcomes.{reply_view};
+ghost use Rattle.std.specs.Str.{is_utf8};
+ghost use Rattle.model_desk.specs.Retries.{delivered};
+ghost use Rattle.model_desk.specs.Retries.Outcome.{partial};
+ghost use Rattle.retry_core.specs.Retries.{outcome_view};
+ghost use Rattle.otlp_http.specs.Outcomes as meaning;
+ghost use Rattle.otlp_http.specs.Outcomes.{outcome_of_body, reply_view};
+ghost use Rattle.http_exporter.specs.declared.failure.Failure.TheVariants as failures;
 ghost use Rattle.http_exporter.specs.Failures as model;
 ghost use Rattle.http_exporter.specs.Failures.{AreKept, IsFront};
 
 use arrayvec::ArrayString;
-use otlp_http::{HttpFault, Reply};
+use otlp_http::{HttpFault, Reply, outcome_of};
 use otlp_wire::{read_partial_bytes, read_status_message};
+use retry_core::Outcome;
 use std::alloc::Allocator;
 use std::marker::Model;
 use std::{fmt, str};
@@ -192,37 +199,70 @@ fn message_of<A: Allocator>(body: &Result<Vec<u8, A>, HttpFault>) -> &str
     }
 }
 
-/// How many spans the body of a reply says were rejected, and why, if any were.
-fn rejection_of<A: Allocator>(body: &Result<Vec<u8, A>, HttpFault>) -> Option<Failure>
-    ensures { AreKept
-        (model.rejection_of (result_map_both (λ v. v.items) (λ fault. fault) body.now)) result }
+/// What it comes to that spans were rejected, for this cause: a message that isn't UTF-8 makes the
+/// response one without a reading, by which the batch can't be taken in part.
+fn rejection(rejected: i64, message: &[u8]) -> (Outcome, Option<Failure>)
+    ensures outcome { outcome_view result.0
+        ≡ (if is_utf8 message.now then partial rejected else delivered) }
+    ensures failure { AreKept
+        (Some (failures.Partial rejected (model.text_in message.now))) result.1 }
 {
-    let Ok(body) = body else {
-        return None;
+    let failure = Failure::Partial {
+        rejected,
+        message: Message::of(text_in(message)),
     };
-    match read_partial_bytes(body) {
-        Ok((rejected, message)) if rejected > 0 => Some(Failure::Partial {
-            rejected,
-            message: Message::of(text_in(message)),
-        }),
-        _ => None,
+    match str::from_utf8(message) {
+        Ok(_) => (Outcome::Partial(rejected), Some(failure)),
+        Err(_) => (Outcome::Delivered, Some(failure)),
     }
 }
 
-/// What a reply says that is no delivery of the whole batch, or why there is no reply. It takes no
-/// memory.
-pub(crate) fn failure_of<A: Allocator>(reply: &Result<Reply<A>, HttpFault>) -> Option<Failure>
-    ensures { AreKept
-        (model.failure_of (result_map_both reply_view (λ fault. fault) reply.now)) result }
+/// What these bytes of a body say of a batch that was taken: how much of it, and why not all.
+fn met_by_bytes(body: &[u8]) -> (Outcome, Option<Failure>)
+    ensures outcome { outcome_view result.0 ≡ outcome_of_body (Ok body.now) }
+    ensures failure { AreKept (model.rejection_of (Ok body.now)) result.1 }
 {
-    match reply {
-        Ok(reply) => match reply.status {
-            200..=299 => rejection_of(&reply.body),
-            status => Some(Failure::Status {
-                status,
-                message: Message::of(message_of(&reply.body)),
-            }),
-        },
-        Err(fault) => Some(Failure::NoReply(*fault)),
+    let Ok((rejected, message)) = read_partial_bytes(body) else {
+        return (Outcome::Delivered, None);
+    };
+    if rejected > 0 {
+        return rejection(rejected, message);
     }
+    (Outcome::Delivered, None)
+}
+
+/// The same of a body, if it could be had.
+fn met_by_body<A: Allocator>(body: &Result<Vec<u8, A>, HttpFault>) -> (Outcome, Option<Failure>)
+    ensures outcome { outcome_view result.0
+        ≡ outcome_of_body (result_map_both (λ v. v.items) (λ fault. fault) body.now) }
+    ensures failure { AreKept
+        (model.rejection_of (result_map_both (λ v. v.items) (λ fault. fault) body.now)) result.1 }
+{
+    match body {
+        Ok(body) => met_by_bytes(body),
+        Err(_) => (Outcome::Delivered, None),
+    }
+}
+
+/// What a reply means for the batch, as [`outcome_of`] says, and what it says that is no delivery of
+/// the whole batch; or the same of why there is no reply. A body is parsed once. It takes no memory.
+pub(crate) fn met_by<A: Allocator>(
+    reply: &Result<Reply<A>, HttpFault>,
+) -> (Outcome, Option<Failure>)
+    ensures outcome { outcome_view result.0
+        ≡ meaning.outcome_of (result_map_both reply_view (λ fault. fault) reply.now) }
+    ensures failure { AreKept
+        (model.failure_of (result_map_both reply_view (λ fault. fault) reply.now)) result.1 }
+{
+    let failure = match reply {
+        Ok(answer) => match answer.status {
+            200..=299 => return met_by_body(&answer.body),
+            status => Failure::Status {
+                status,
+                message: Message::of(message_of(&answer.body)),
+            },
+        },
+        Err(fault) => Failure::NoReply(*fault),
+    };
+    (outcome_of(reply), Some(failure))
 }

@@ -1,11 +1,11 @@
 //! A request that goes out in two writes where it can: its head goes together with as much of the
 //! body as there is room for, and then the rest of the body.
 
-ghost use Rattle.std.specs.Prelude.{◌≡◌, ◌<◌, ◌≤◌, ◌⊎◌, [], length, take, OnErr, OnOk, Some};
+ghost use Rattle.std.specs.Prelude.{◌≡◌, ◌<◌, ◌⊎◌, length, take, OnErr, OnOk};
 ghost use Rattle.otlp_http.specs.Request.{head_for, text_for};
 ghost use Rattle.http_exporter.specs.Attempts.{shown, IsSent, IsStopped};
 
-use http_wire::{FRONT_ROOM, Front};
+use http_wire::{FRONT_ROOM, Front, write_pieces};
 use itoa::Buffer;
 use otlp_http::{Connection, DeviceFailed, FaultRead, FaultWrite, Target, write_request_for};
 use std::alloc::Allocator;
@@ -46,25 +46,6 @@ fn head_length<A: Allocator>(target: &Target<A>, connection: Connection, size: u
     FIXED + target.path().len() + target.host().len() + port.len() + digits.len() + lines
 }
 
-/// Writes the whole piece.
-fn write_all<L: FaultRead + FaultWrite>(link: &mut L, piece: &[u8]) -> Result<(), DeviceFailed>
-    ensures sent { OnOk result (IsSent
-        (shown L.contents L.remaining L.FaultWrite.failures L.FaultRead.failures)
-        piece.now link.old link.new) }
-    ensures stopped { OnErr result (IsStopped
-        (shown L.contents L.remaining L.FaultWrite.failures L.FaultRead.failures)
-        piece.now link.old link.new) }
-{
-    let mut at = 0;
-    while at < piece.len() {
-        match link.write(&piece[at..]) {
-            Ok(n) => at += n,
-            Err(failed) => return Err(failed),
-        }
-    }
-    Ok(())
-}
-
 /// Writes the request that carries `body` to the target and asks this of its connection: in two
 /// writes, where the link takes all that it is given, and in one where the request is small.
 ///
@@ -94,7 +75,8 @@ pub(crate) fn send<L: FaultRead + FaultWrite, A: Allocator>(
     let front = front_of(target, connection, body);
     let front = front.taken();
     let rest = &body[front.len() - head..];
-    write_all(link, front)?;
-    write_all(link, rest)?;
-    Ok(())
+    match write_pieces(link, &[front, rest]) {
+        Ok(()) => Ok(()),
+        Err(_) => Err(DeviceFailed),
+    }
 }

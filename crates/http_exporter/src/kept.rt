@@ -1,17 +1,16 @@
 //! An exporter that posts bodies over one link as long as replies let it.
 
-ghost use Rattle.std.specs.Prelude.{◌≡◌, ◌≢◌, ◌≤◌, ◌^◌, ◌-◌, ◌↔◌, ℕ, IsOk, IsSome, IsTrue};
-ghost use Rattle.std.specs.Prelude.{Some, None};
+ghost use Rattle.std.specs.Prelude.{◌≡◌, ◌≢◌, ◌↔◌, IsSome, IsTrue, None};
 ghost use Rattle.std.specs.Option.{option_copied};
 ghost use Rattle.retry_core.specs.Retries.{outcome_view};
-ghost use Rattle.model_retry.specs.Retries.{delivered};
-ghost use Rattle.http_exporter.specs.Attempts.{shown};
-ghost use Rattle.http_exporter.specs.Kept.{GetsLink, IsKeptAttempt};
+ghost use Rattle.model_desk.specs.Retries.{delivered};
+ghost use Rattle.http_exporter.specs.Attempts.{NeedsNothing, shown};
+ghost use Rattle.http_exporter.specs.Kept.{GetsLink, IsKeptAttempt, KeptAttempts};
 
 use crate::dial::Dial;
 use crate::exporter::LinkExporter;
 use crate::failure::Failure;
-use crate::kept_link::KeptLink;
+use crate::kept_link::{KeptLink, ready};
 use crate::reports::ReportsFailure;
 use otlp_ids::OutOfMemory;
 use retry_core::Outcome;
@@ -87,13 +86,10 @@ where
           link = None;
         } }
     {
-        let Some(mut link) = self.link.take() else {
-            return self.exporter.dial();
-        };
-        if link.renew() {
-            return Some(link);
+        match ready(self.link.take()) {
+            Some(link) => Some(link),
+            None => self.exporter.dial(),
         }
-        self.exporter.dial()
     }
 
     /// Attempts to send a body: posts it over the link that is kept, if that is ready, and else
@@ -140,27 +136,18 @@ where
     /// Nothing has to be made ready: there is room for any number of attempts of any body. It takes
     /// no memory, and is never refused.
     fn prepare(&mut self, size: usize, attempts: u32) -> Result<(), OutOfMemory>
-        ensures ready { IsOk result }
-        ensures unchanged { self.new ≡ self.old }
-        ensures room { (len : ℕ) → len ≤ size → attempts ≤ 2 ^ 32 - 1 }
+        ensures ready { NeedsNothing result self.old self.new size attempts }
     {
         Ok(())
     }
 
     /// Attempts to send the body, as [`KeptExporter::attempt`] does: the numbers go nowhere.
     fn export(&mut self, _number: u64, _attempt: u32, body: &[u8]) -> Outcome
-        ensures outcome { IsKeptAttempt D.dials D.Link.renews
+        ensures outcome { KeptAttempts D.dials D.Link.renews
             (shown D.Link.contents D.Link.remaining
             D.Link.FaultWrite.failures D.Link.FaultRead.failures)
-            body.now self.old self.new (outcome_view result) }
+            self.old body.now (outcome_view result) self.new }
         ensures failed { outcome_view result ≢ delivered → IsSome self.new.exporter.last_failure }
-        ensures others { self.new ≡ record {
-          exporter = record self.old.exporter {
-            dial = self.new.exporter.dial;
-            last_failure = self.new.exporter.last_failure;
-          };
-          link = self.new.link;
-        } }
     {
         self.attempt(body)
     }

@@ -23,7 +23,7 @@ pub use dial::Dial;
 pub use exporter::LinkExporter;
 pub use failure::{Failure, MESSAGE_ROOM, Message};
 pub use kept::KeptExporter;
-pub use kept_link::KeptLink;
+pub use kept_link::{KeptLink, PeekLink, ready};
 pub use reports::ReportsFailure;
 pub use tcp::{DEFAULT_EXPORT_TIMEOUT_MS, HttpExporter, Socket, TcpDial};
 pub use watched::{FailureWatch, WatchedExporter};

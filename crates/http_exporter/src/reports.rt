@@ -3,8 +3,8 @@
 ghost use Rattle.std.specs.Prelude.{◌≡◌, ◌≢◌, ℕ, List, Option, IsSome};
 ghost use Rattle.std.specs.Option.{option_copied};
 ghost use Rattle.retry_core.specs.Retries.{outcome_view};
-ghost use Rattle.model_retry.specs.Retries as model;
-ghost use Rattle.model_retry.specs.Retries.{delivered};
+ghost use Rattle.model_desk.specs.Retries as model;
+ghost use Rattle.model_desk.specs.Retries.{delivered};
 ghost use Rattle.http_exporter.specs.declared.failure.Failure as failure;
 
 use crate::failure::Failure;

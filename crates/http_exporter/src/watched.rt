@@ -1,8 +1,9 @@
 //! An exporter that shows what it met while it works on another thread.
 
-ghost use Rattle.std.specs.Prelude.{◌≡◌, ◌≢◌, ◌≤◌, ◌^◌, ◌-◌, ℕ, IfOk, IsOk, IsSome};
+ghost use Rattle.std.specs.Prelude.{◌≡◌, ◌≢◌, IfOk, IsSome};
+ghost use Rattle.http_exporter.specs.Attempts.{NeedsNothing};
 ghost use Rattle.retry_core.specs.Retries.{outcome_view};
-ghost use Rattle.model_retry.specs.Retries.{delivered};
+ghost use Rattle.model_desk.specs.Retries.{delivered};
 
 use crate::failure::Failure;
 use crate::reports::ReportsFailure;
@@ -92,9 +93,7 @@ impl<E: ReportsFailure, R: Wait> Exporter for WatchedExporter<E, R> {
 
     /// Nothing has to be made ready, as by the exporter that it was made of.
     fn prepare(&mut self, size: usize, attempts: u32) -> Result<(), OutOfMemory>
-        ensures ready { IsOk result }
-        ensures unchanged { self.new ≡ self.old }
-        ensures room { (len : ℕ) → len ≤ size → attempts ≤ 2 ^ 32 - 1 }
+        ensures ready { NeedsNothing result self.old self.new size attempts }
     {
         Ok(())
     }

@@ -7,6 +7,7 @@ use Rattle.httparse.specs.Ascii.{line_feed, carriage_return}
 use Rattle.httparse.specs.Grammar.{LineEnd, crlf, lf, print_end, Field}
 use Rattle.httparse.specs.Spans.{AreFieldsAt, header_bytes, name_and_value}
 use Rattle.httparse.specs.declared.spans.HeaderSpan.{HeaderSpan}
+use Rattle.http_wire.specs.Heads.{HasNone}
 
 -- A front of a list with one more byte is all of it, or a front of the list.
 pub push_split : (xs : List ℕ) (x : ℕ) (front rest : List ℕ) → xs ++ x ∷ [] ≡ front ++ rest
@@ -37,11 +38,6 @@ push_last (a ∷ xs) (b ∷ ys) x y e = push_last xs ys x y cc
 pub end_ends : (end : LineEnd) → (front : List ℕ) × (print_end end ≡ front ++ line_feed ∷ [])
 end_ends crlf = (carriage_return ∷ [], refl)
 end_ends lf = ([], refl)
-
--- no front of the text is such a head
-abbrev pub HasNone : {H : Type 0} → (H → Type 0) → (H → List ℕ) → List ℕ → Type 0
-HasNone {H} Valid print text =
-    (head : H) (rest : List ℕ) → ¬ (Valid head × (text ≡ print head ++ rest))
 
 -- each such head ends in a line feed
 abbrev pub EndsInLine : {H : Type 0} → (H → List ℕ) → Type 0

@@ -15,6 +15,7 @@ use Rattle.http_wire.specs.declared.place.LinePart.{LinePart}
 use Rattle.http_wire.specs.declared.place.LinePart.TheVariants as parts
 use Rattle.http_wire.specs.Places.{AreLines, AreBlank, IsUnended, IsEmptyLine, IsDue, HasBegun}
 use Rattle.http_wire.specs.Places.{IsPart, is_text, IsPlace}
+use Rattle.http_wire.specs.Heads.{HasNone}
 use Rattle.http_wire.proofs.HeadLemmas as grown
 
 -- ---- lines
@@ -447,10 +448,24 @@ section_due front rest byte line_end fields last feed cr =
 abbrev pub EndsDue : {H : Type 0} → (H → Type 0) → (H → List ℕ) → Type 0
 EndsDue {H} Valid print = (head : H) → Valid head → IsDue (print head)
 
+-- The empty text has no head after which a parse is due.
+pub none_of_nothing : {H : Type 0} (Valid : H → Type 0) (print : H → List ℕ) → EndsDue Valid print
+    → HasNone Valid print []
+none_of_nothing Valid print ends head rest reads =
+    let due = ends head reads.0 in
+    let all = ap length reads.1 ∙ length-append (print head) rest in
+    let lines = ap length due.whole ∙ length-append due.lines (due.line ++ 10 ∷ []) in
+    let line = length-append due.line (10 ∷ []) in
+    omega (arith, all, lines, line)
+
+-- A text after which a parse is due ends in a line feed.
+pub due_ends : (text : List ℕ) → IsDue text → (front : List ℕ) × (text ≡ front ++ 10 ∷ [])
+due_ends text due = (due.lines ++ due.line, due.whole ∙ simp append_assoc)
+
 -- A byte after which no parse is due makes no head.
 pub none_before_due : {H : Type 0} (Valid : H → Type 0) (print : H → List ℕ) → EndsDue Valid print
-    → (text : List ℕ) (byte : ℕ) → grown.HasNone Valid print text → ¬ (IsDue (text ++ byte ∷ []))
-    → grown.HasNone Valid print (text ++ byte ∷ [])
+    → (text : List ℕ) (byte : ℕ) → HasNone Valid print text → ¬ (IsDue (text ++ byte ∷ []))
+    → HasNone Valid print (text ++ byte ∷ [])
 none_before_due Valid print ends text byte none not_yet head rest reads =
     elim (grown.push_split text byte (print head) rest reads.1) [
       | inl both ↦ not_yet (subst IsDue both.1 (ends head reads.0))

@@ -1,26 +1,38 @@
 //! The head of a message, which both sides read in the same way.
 
-ghost use Rattle.std.specs.Prelude.{◌≡◌, ℕ, ◌<◌, ◌++◌, ◌∷◌, [], length, List, IfErr, IfOk, OnOk};
+ghost use Rattle.std.specs.Prelude.{◌≡◌, ℕ, ◌≤◌, ◌++◌, length, List, IfErr, IfOk, OnOk};
 ghost use Rattle.std.specs.Io.KnownBytes.{Consumes};
+ghost use Rattle.httparse.specs.Grammar.{Field};
+ghost use Rattle.httparse.specs.Outcome.{IfComplete, OnInvalid, OnPartial, OnTooManyHeaders};
 ghost use Rattle.httparse.specs.declared.spans.HeaderSpan.{HeaderSpan};
-ghost use Rattle.http_wire.specs.declared.limits.HeadLimits.{HeadLimits};
 ghost use Rattle.http_wire.specs.Devices.{HasFailed};
 ghost use Rattle.http_wire.specs.Faults.{CountsAtHead};
-ghost use Rattle.http_wire.specs.Heads.{IsStoppedHead, LacksSuchHead, ParsesSuchHead};
+ghost use Rattle.http_wire.specs.Heads.{FindsSuchHead, HasNone, IsStoppedHead, LacksSuchHead};
+ghost use Rattle.http_wire.specs.Heads.{ParsesSuchHead};
 ghost use Rattle.http_wire.specs.Places.{IsDue};
 
 use crate::{FaultRead, HeadLimits, HeadPlace, HttpFault, read_byte};
 use httparse::spans::HeaderSpan;
+use httparse::{Error, Status};
 use std::alloc::Allocator;
 
-/// A kind of head, a request's or a reply's, and how a text is parsed as one (RFC 9112, sections 3
-/// and 4).
+/// A kind of head, a request's or a reply's, and how `httparse` parses a text as one (RFC 9112,
+/// sections 3 and 4).
 pub trait ParseHead {
     /// Where the parts of a head are in its text.
     type Spans: Drop;
 
-    // No front of the text is a head.
-    ghost has_none: { List ℕ → Type 0 };
+    // The heads of this kind.
+    ghost Head: { Type 0 };
+
+    // Which of them are valid.
+    ghost valid: { Self.Head → Type 0 };
+
+    // How one is printed.
+    ghost printed: { Self.Head → List ℕ };
+
+    // The fields of one.
+    ghost fields_in: { Self.Head → List Field };
 
     // Bytes can follow the text that make it a head.
     ghost may_become: { List ℕ → Type 0 };
@@ -31,49 +43,69 @@ pub trait ParseHead {
     // The text's head has more fields than this number.
     ghost exceeds: { ℕ → List ℕ → Type 0 };
 
-    // These are the spans of a head at the front of the text, with room for this number of fields.
-    ghost finds_front: { List ℕ → ℕ → List HeaderSpan → Self.Spans → Type 0 };
+    // These spans cover the parts of this head, which is at the front of the text.
+    ghost covers: { List ℕ → List HeaderSpan → Self.Spans → Self.Head → Type 0 };
 
-    // The text is a head within the limits, and these are its spans.
-    ghost finds: { HeadLimits → List ℕ → List HeaderSpan → Self.Spans → Type 0 };
+    // They are within the text.
+    ghost is_within: { List ℕ → List HeaderSpan → Self.Spans → Type 0 };
 
-    /// Whether a front of the text is a head, whose fields' spans then are at the front of `spans`.
+    /// What `httparse` says of the text: a head is at its front, whose fields' spans then are at
+    /// the front of `spans`, or more bytes are needed.
     ///
     /// # Errors
     ///
-    /// [`HttpFault::TooLarge`] where the head has more fields than `spans` has room for, and
-    /// [`HttpFault::BadHead`] where the text can't begin a head.
-    fn parse(text: &[u8], spans: &mut [HeaderSpan]) -> Result<Option<Self::Spans>, HttpFault>
-        ensures parsed { ParsesSuchHead has_none may_become never_has exceeds finds_front
-            text.now (length spans.old) spans.new result }
+    /// `TooManyHeaders` where the head has more fields than `spans` has room for, and another one
+    /// where the text can't begin a head.
+    fn parse(text: &[u8], spans: &mut [HeaderSpan]) -> httparse::Result<Self::Spans>
+        ensures complete { IfComplete result (λ found. (head : Self.Head)
+            × covers text.now spans.new found head) }
+        ensures within { IfComplete result (is_within text.now spans.new) }
+        ensures partial { OnPartial result (HasNone valid printed text.now) }
+        ensures unfinished { OnPartial result (may_become text.now) }
+        ensures invalid { OnInvalid result (never_has text.now) }
+        ensures too_many { OnTooManyHeaders result (exceeds (length spans.old) text.now) }
         ensures room { length spans.new ≡ length spans.old };
 
-    // No text of no bytes is a head.
-    ghost none_of_nothing: { has_none [] };
+    // A parse is due after a head.
+    ghost due: { (head : Self.Head) → valid head → IsDue (printed head) };
 
-    // A byte after which no parse is due makes no head.
-    ghost none_yet: { (text : List ℕ) (byte : ℕ) → has_none text
-        → ¬ (IsDue (text ++ byte ∷ [])) → has_none (text ++ byte ∷ []) };
+    // A head whose parts are covered is valid, and the text begins with it.
+    ghost begins: { (text : List ℕ) (spans : List HeaderSpan) (found : Self.Spans)
+        (head : Self.Head) → covers text spans found head
+        → (rest : List ℕ) × (valid head × (text ≡ printed head ++ rest)) };
 
-    // A text of which no front is a head has no spans of one.
-    ghost none_found: { (text : List ℕ) (room : ℕ) (spans : List HeaderSpan) (found : Self.Spans)
-        → has_none text → finds_front text room spans found → ⊥ };
+    // It has no more fields than there are spans.
+    ghost fits: { (text : List ℕ) (spans : List HeaderSpan) (found : Self.Spans)
+        (head : Self.Head) → covers text spans found head
+        → length (fields_in head) ≤ length spans };
+}
 
-    // A head that a byte makes whole is the text.
-    ghost is_whole: { (limits : HeadLimits) (old text : List ℕ) (byte : ℕ)
-        (spans : List HeaderSpan) (room : ℕ) (found : Self.Spans)
-        → has_none old → text ≡ old ++ byte ∷ [] → length old < limits.head
-        → room ≡ limits.fields → finds_front text room spans found
-        → finds limits text spans found };
+/// Whether a front of the text is a head, whose fields' spans then are at the front of `spans`.
+///
+/// # Errors
+///
+/// [`HttpFault::TooLarge`] where the head has more fields than `spans` has room for, and
+/// [`HttpFault::BadHead`] where the text can't begin a head.
+fn parse<P: ParseHead>(text: &[u8], spans: &mut [HeaderSpan]) -> Result<Option<P::Spans>, HttpFault>
+    ensures parsed { ParsesSuchHead (HasNone P.valid P.printed) P.may_become P.never_has
+        P.exceeds P.covers P.is_within text.now (length spans.old) spans.new result }
+    ensures room { length spans.new ≡ length spans.old }
+{
+    match P::parse(text, spans) {
+        Ok(Status::Complete(head)) => Ok(Some(head)),
+        Ok(Status::Partial) => Ok(None),
+        Err(Error::TooManyHeaders) => Err(HttpFault::TooLarge),
+        Err(_) => Err(HttpFault::BadHead),
+    }
 }
 
 /// Why there is no head, where the bytes stopped by `fault` before it was whole.
 fn stopped<P: ParseHead>(text: &[u8], spans: &mut [HeaderSpan], fault: HttpFault) -> HttpFault
-    requires { P.has_none text.now }
-    ensures { IsStoppedHead P.has_none P.may_become P.never_has P.exceeds
+    requires { HasNone P.valid P.printed text.now }
+    ensures { IsStoppedHead (HasNone P.valid P.printed) P.may_become P.never_has P.exceeds
         text.now (length spans.old) fault result }
 {
-    match P::parse(text, spans) {
+    match parse::<P>(text, spans) {
         Ok(Some(_)) => unreachable!(),
         Ok(None) => fault,
         Err(bad) => bad,
@@ -98,9 +130,10 @@ pub fn read_head<P: ParseHead, R: FaultRead, A: Allocator>(
     requires { length spans.old ≡ limits.now.fields }
     ensures taken { Consumes (R.remaining reader.old) (R.remaining reader.new) text.new.items }
     ensures kept { OnOk result (R.failures reader.new ≡ R.failures reader.old) }
-    ensures head { IfOk result (P.finds limits.now text.new.items spans.new) }
-    ensures none { IfErr result (LacksSuchHead P.has_none P.may_become P.never_has P.exceeds
-        limits.now text.new.items (R.remaining reader.new)
+    ensures head { IfOk result (FindsSuchHead P.valid P.printed P.fields_in P.covers P.is_within
+        limits.now text.new.items spans.new) }
+    ensures none { IfErr result (LacksSuchHead (HasNone P.valid P.printed) P.may_become
+        P.never_has P.exceeds limits.now text.new.items (R.remaining reader.new)
         (HasFailed (R.failures reader.old) (R.failures reader.new))) }
     ensures counted { IfErr result (λ fault.
         CountsAtHead fault (R.failures reader.old) (R.failures reader.new)) }
@@ -119,7 +152,7 @@ pub fn read_head<P: ParseHead, R: FaultRead, A: Allocator>(
         };
         text.push_reserved(byte);
         if place.pass(byte) {
-            if let Some(head) = P::parse(text, spans)? {
+            if let Some(head) = parse::<P>(text, spans)? {
                 return Ok(head);
             }
         }

@@ -7,7 +7,7 @@ use Rattle.std.proofs.lemmas.List.{map-append}
 use Rattle.std.proofs.lemmas.List.Sums.{sum_by-append}
 use Rattle.model_span.specs.Spans.{SpanData}
 use Rattle.model_span.specs.Dropped.{Reason, Entry, entry_of, is_lost, can_drop_batch}
-use Rattle.model_retry.specs.Retries.{Fate}
+use Rattle.model_desk.specs.Retries.{Fate}
 use Rattle.model_desk.specs.Queue.{DeskEvent, queued, full, late, flush, shutdown, taken, handed}
 use Rattle.model_desk.specs.Queue.{dropped, settled, popped, popped_lost, queued_span, size_of_take}
 use Rattle.model_desk.specs.Queue.{last_batch, last_spans, last_size, Stage, not_out, in_hand}

@@ -1,6 +1,6 @@
 -- What ends and takes answer, and what no other step answers.
 use Rattle.std.proofs.Common.{◌≡◌, refl, sym, ap, ◌∙◌, ℕ, ◌+◌, nat_lt, nat_le, min, List, length}
-use Rattle.std.proofs.Common.{Bool, true, false, true≢false, not, ◌&&◌, Option, Some, None}
+use Rattle.std.proofs.Common.{Bool, true, false, true≢false, not, ◌&&◌, Option, Some, None, rules}
 use Rattle.std.specs.Prelude.{is_none, if◌then◌else◌}
 use Rattle.std.specs.List.{list_any}
 use Rattle.std.specs.Option.{option_map_or}
@@ -8,7 +8,7 @@ use Rattle.model_span.specs.Dropped.{Reason, queue_full, encode_memory, too_larg
 use Rattle.model_span.specs.Sampling.{is_sampled}
 use Rattle.model_span.specs.Spans.{Call, is_end}
 use Rattle.model_span.specs.Starts.{Ids, StartedSpan}
-use Rattle.model_retry.specs.Retries.{Outcome, Next}
+use Rattle.model_desk.specs.Retries.{Outcome, Next}
 use Rattle.model_desk.specs.Desks.{Desk, is_due, desk_of}
 use Rattle.model_run.specs.Steps.{Step}
 use Rattle.model_run.specs.Runs.{Ended, queued, late, not_sampled, already_ended, Answer, started}
@@ -139,11 +139,22 @@ record TellsEnds (f : Answer → Bool) (says : Bool → Bool → Bool) : Type 0 
   of_taken : (number size : ℕ) → f (taken number size) ≡ false
   of_encoded : (number size : ℕ) → f (encoded number size) ≡ false
   of_sent : (number attempt : ℕ) (outcome : Outcome) → f (sent number attempt outcome) ≡ false
-  of_end : (over sampled shut full : Bool) (ticket : ℕ)
-      → f (ended (end_by over sampled shut full ticket)) ≡ (not over && sampled && says shut full)
+  of_over : f (ended already_ended) ≡ false
+  of_unsampled : f (ended not_sampled) ≡ false
+  of_late : (full : Bool) → f (ended late) ≡ says true full
+  of_full : (ticket : ℕ) → f (ended (Ended.dropped ticket queue_full)) ≡ says false true
+  of_queued : (ticket : ℕ) → f (ended (queued ticket)) ≡ says false false
 
 module _ (f : Answer → Bool) (says : Bool → Bool → Bool) (t : TellsEnds f says) (run : RunConfig)
     (before : List Answered) where
+  of-end : (over sampled shut full : Bool) (ticket : ℕ)
+      → f (ended (end_by over sampled shut full ticket)) ≡ (not over && sampled && says shut full)
+  of-end true sampled shut full ticket = t.of_over
+  of-end false false shut full ticket = t.of_unsampled
+  of-end false true true full ticket = t.of_late full
+  of-end false true false true ticket = t.of_full ticket
+  of-end false true false false ticket = t.of_queued ticket
+
   abbrev told : Step → Bool
   told step = is_first_end run before step && says (was_shut before) (is_full run before)
 
@@ -165,7 +176,7 @@ module _ (f : Answer → Bool) (says : Bool → Bool → Bool) (t : TellsEnds f 
           ≡ (e && not (list_any is_end (calls_so_far before n)) && is_sampled s.decision
           && says (was_shut before) (is_full run before))
       end-or-not s true =
-          t.of_end (list_any is_end (calls_so_far before n)) (is_sampled s.decision)
+          of-end (list_any is_end (calls_so_far before n)) (is_sampled s.decision)
           (was_shut before) (is_full run before) _
       end-or-not s false = or-not (refused && call_takes_memory s (calls_so_far before n) c)
         where
@@ -202,97 +213,14 @@ module _ (f : Answer → Bool) (says : Bool → Bool → Bool) (t : TellsEnds f 
   ends-are : (x : Answered) → IsAnswer run before x → f x.answer ≡ told x.step
   ends-are x i = ap f i.is ∙ ends-told i.given x.step
 
-of-late : (over sampled shut full : Bool) (ticket : ℕ)
-    → says_late (ended (end_by over sampled shut full ticket)) ≡ (not over && sampled && shut)
-of-late true sampled shut full ticket = cc
-of-late false false shut full ticket = refl
-of-late false true true full ticket = refl
-of-late false true false true ticket = refl
-of-late false true false false ticket = refl
-
-of-full : (over sampled shut full : Bool) (ticket : ℕ)
-    → says_full (ended (end_by over sampled shut full ticket))
-    ≡ (not over && sampled && (not shut && full))
-of-full true sampled shut full ticket = cc
-of-full false false shut full ticket = refl
-of-full false true true full ticket = refl
-of-full false true false true ticket = refl
-of-full false true false false ticket = refl
-
-of-queued : (over sampled shut full : Bool) (ticket : ℕ)
-    → says_queued (ended (end_by over sampled shut full ticket))
-    ≡ (not over && sampled && (not shut && not full))
-of-queued true sampled shut full ticket = cc
-of-queued false false shut full ticket = refl
-of-queued false true true full ticket = refl
-of-queued false true false true ticket = refl
-of-queued false true false false ticket = refl
-
 tells-late : TellsEnds says_late (λ shut full. shut)
-tells-late = record {
-  quiet = record {
-    of_start = λ ids. refl;
-    of_no_randomness = refl;
-    of_no_span = refl;
-    of_memory = refl;
-    of_done = refl;
-    of_flush = refl;
-    of_shutdown = refl;
-    of_not_taken = refl;
-    of_early = refl;
-    of_dropped = λ n r. refl;
-    of_replied = λ n x. refl;
-    of_nothing = refl;
-  };
-  of_taken = λ n s. refl;
-  of_encoded = λ n s. refl;
-  of_sent = λ n a o. refl;
-  of_end = of-late;
-}
+tells-late = search rules
 
 tells-full : TellsEnds says_full (λ shut full. not shut && full)
-tells-full = record {
-  quiet = record {
-    of_start = λ ids. refl;
-    of_no_randomness = refl;
-    of_no_span = refl;
-    of_memory = refl;
-    of_done = refl;
-    of_flush = refl;
-    of_shutdown = refl;
-    of_not_taken = refl;
-    of_early = refl;
-    of_dropped = λ n r. refl;
-    of_replied = λ n x. refl;
-    of_nothing = refl;
-  };
-  of_taken = λ n s. refl;
-  of_encoded = λ n s. refl;
-  of_sent = λ n a o. refl;
-  of_end = of-full;
-}
+tells-full = search rules
 
 tells-queued : TellsEnds says_queued (λ shut full. not shut && not full)
-tells-queued = record {
-  quiet = record {
-    of_start = λ ids. refl;
-    of_no_randomness = refl;
-    of_no_span = refl;
-    of_memory = refl;
-    of_done = refl;
-    of_flush = refl;
-    of_shutdown = refl;
-    of_not_taken = refl;
-    of_early = refl;
-    of_dropped = λ n r. refl;
-    of_replied = λ n x. refl;
-    of_nothing = refl;
-  };
-  of_taken = λ n s. refl;
-  of_encoded = λ n s. refl;
-  of_sent = λ n a o. refl;
-  of_end = of-queued;
-}
+tells-queued = search rules
 
 and-three : (a b c : Bool) → (a && (b && c)) ≡ (a && b && c)
 and-three true b c = refl
@@ -321,20 +249,7 @@ queued-where-room run h w before later x e =
 -- ---- takes
 
 quiet-taken : Quiet says_taken
-quiet-taken = record {
-  of_start = λ ids. refl;
-  of_no_randomness = refl;
-  of_no_span = refl;
-  of_memory = refl;
-  of_done = refl;
-  of_flush = refl;
-  of_shutdown = refl;
-  of_not_taken = refl;
-  of_early = refl;
-  of_dropped = λ n r. refl;
-  of_replied = λ n x. refl;
-  of_nothing = refl;
-}
+quiet-taken = search rules
 
 take-told : (run : RunConfig) (before : List Answered) (given : Given) (step : Step)
     → says_taken (answer_to run before given step) ≡ may_take run before step

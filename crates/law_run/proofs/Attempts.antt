@@ -13,13 +13,13 @@ use Rattle.model_span.specs.Attributes.{last_or}
 use Rattle.model_span.specs.Dropped.{too_large}
 use Rattle.model_span.specs.Spans.{SpanData, Call, is_end}
 use Rattle.model_span.specs.Starts.{StartedSpan}
-use Rattle.model_retry.specs.Retries.{Outcome, Next, again, give_up, Fate, fate_of}
+use Rattle.model_desk.specs.Retries.{Outcome, Next, again, give_up, Fate, fate_of}
 use Rattle.model_desk.specs.Queue.{DeskEvent, size_of_take, batch_sizes}
 use Rattle.model_desk.specs.Queue as desk
 use Rattle.model_desk.specs.Desks.{is_due, desk_of}
 use Rattle.model_desk.proofs.Lists.{none-more, some-more, last-more}
-use Rattle.model_retry.specs.Waits.{RetryConfig, next_after}
-use Rattle.model_retry.proofs.Again.{again-few}
+use Rattle.model_desk.specs.Waits.{RetryConfig, next_after}
+use Rattle.model_desk.proofs.Again.{again-few}
 use Rattle.law_desk.proofs.Batches.{range-more}
 use Rattle.model_run.specs.Steps.{Step}
 use Rattle.model_run.specs.History.{Setup}

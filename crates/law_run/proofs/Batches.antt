@@ -6,7 +6,7 @@ use Rattle.std.specs.List.{list_any, cons_option}
 use Rattle.std.proofs.lemmas.List.Elements.{filter_map-append}
 use Rattle.model_span.specs.Attributes.{last_or}
 use Rattle.model_desk.specs.Queue.{last_batch, last_size}
-use Rattle.model_retry.specs.Retries.{Next, again, give_up}
+use Rattle.model_desk.specs.Retries.{Next, again, give_up}
 use Rattle.model_desk.specs.Desks.{out_as, is_due, desk_of}
 use Rattle.model_run.specs.Steps.{Step}
 use Rattle.model_run.specs.History.{Setup}

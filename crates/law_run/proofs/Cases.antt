@@ -1,9 +1,10 @@
 -- What an answer says of the queue and of a batch, case by case.
-use Rattle.std.proofs.Common.{◌≡◌, refl, ℕ, false, Option, Some, None, option_map}
+use Rattle.std.proofs.Common.{◌≡◌, refl, ap, ℕ, Bool, false, Option, Some, None, option_map}
 use Rattle.std.specs.Prelude.{◌==◌, if◌then◌else◌, List, []}
 use Rattle.model_span.specs.Dropped.{Reason, queue_full, encode_memory, too_large, abandoned}
+use Rattle.model_span.specs.Dropped.{Entry}
 use Rattle.model_span.specs.Spans.{SpanData}
-use Rattle.model_retry.specs.Retries.{Outcome, Next, fate_of}
+use Rattle.model_desk.specs.Retries.{Outcome, Next, fate_of}
 use Rattle.model_desk.specs.Queue.{DeskEvent}
 use Rattle.model_desk.specs.Queue as desk
 use Rattle.model_run.specs.Steps.{Step}
@@ -12,8 +13,8 @@ use Rattle.model_run.specs.Runs.{Ended, queued, handed, late, not_sampled, alrea
 use Rattle.model_run.specs.Runs.{started, no_randomness, no_span, out_of_memory, done, ended, taken}
 use Rattle.model_run.specs.Runs.{not_taken, encoded, sent, early, replied, nothing, Answered}
 use Rattle.model_run.specs.Runs.{take_moment, span_of_end, event_by}
-use Rattle.model_run.specs.Answers.{progress_by, attempts_by}
-use Rattle.model_run.specs.Headline.{attempt_by}
+use Rattle.model_run.specs.Answers.{Progress, progress_by, attempts_by}
+use Rattle.model_run.specs.Headline.{Attempt, attempt_by}
 use Rattle.law_run.specs.Laws.{says_taken, ends_batch, moment_by, lost_by}
 
 -- how many spans a taken batch has
@@ -31,6 +32,41 @@ pub record IsSilent (a : Answer) : Type 0 where
   pub no_take : says_taken a ≡ false
   pub no_end : ends_batch a ≡ false
   pub no_loss : (spans : List SpanData) → lost_by a spans ≡ []
+
+-- all that an answer says of a batch
+record Said : Type 0 where
+  progress : Option Progress
+  size : Option ℕ
+  number : Option ℕ
+  attempt : Option Attempt
+  moment : Option ℕ
+  takes : Bool
+  ends : Bool
+  loss : List SpanData → List Entry
+
+abbrev said_by : Answer → Said
+said_by a = record {
+  progress = progress_by a;
+  size = size_by a;
+  number = attempts_by a;
+  attempt = attempt_by a;
+  moment = moment_by a;
+  takes = says_taken a;
+  ends = ends_batch a;
+  loss = lost_by a;
+}
+
+silent : (a : Answer) → said_by a ≡ said_by nothing → IsSilent a
+silent a e = record {
+  no_progress = ap (λ x. x.progress) e;
+  no_size = ap (λ x. x.size) e;
+  no_number = ap (λ x. x.number) e;
+  no_attempt = ap (λ x. x.attempt) e;
+  no_moment = ap (λ x. x.moment) e;
+  no_take = ap (λ x. x.takes) e;
+  no_end = ap (λ x. x.ends) e;
+  no_loss = λ spans. ap (λ x. x.loss spans) e;
+}
 
 -- what has to be shown of each answer and of what a step with it does at the queue
 pub record EventCases (step : Step) (P : Answer → Option DeskEvent → Type 0) : Type 0 where
@@ -67,222 +103,31 @@ module _ (setup : Setup) (before : List Answered) (step : Step)
   by-event (Answer.dropped number reason) = c.of_dropped number reason
   by-event (sent number attempt outcome) = c.of_sent number attempt outcome
   by-event (replied number next) = c.of_replied number next
-  by-event (ended (handed n)) =
-      c.of_other (ended (handed n))
-      (record {
-        no_progress = refl;
-        no_size = refl;
-        no_number = refl;
-        no_attempt = refl;
-        no_moment = refl;
-        no_take = refl;
-        no_end = refl;
-        no_loss = λ spans. refl;
-      })
+  by-event (ended (handed n)) = c.of_other (ended (handed n)) (silent _ refl)
   by-event (ended (Ended.dropped n encode_memory)) =
-      c.of_other (ended (Ended.dropped n encode_memory))
-      (record {
-        no_progress = refl;
-        no_size = refl;
-        no_number = refl;
-        no_attempt = refl;
-        no_moment = refl;
-        no_take = refl;
-        no_end = refl;
-        no_loss = λ spans. refl;
-      })
+      c.of_other (ended (Ended.dropped n encode_memory)) (silent _ refl)
   by-event (ended (Ended.dropped n too_large)) =
-      c.of_other (ended (Ended.dropped n too_large))
-      (record {
-        no_progress = refl;
-        no_size = refl;
-        no_number = refl;
-        no_attempt = refl;
-        no_moment = refl;
-        no_take = refl;
-        no_end = refl;
-        no_loss = λ spans. refl;
-      })
+      c.of_other (ended (Ended.dropped n too_large)) (silent _ refl)
   by-event (ended (Ended.dropped n abandoned)) =
-      c.of_other (ended (Ended.dropped n abandoned))
-      (record {
-        no_progress = refl;
-        no_size = refl;
-        no_number = refl;
-        no_attempt = refl;
-        no_moment = refl;
-        no_take = refl;
-        no_end = refl;
-        no_loss = λ spans. refl;
-      })
+      c.of_other (ended (Ended.dropped n abandoned)) (silent _ refl)
   by-event (ended (Ended.dropped n (Reason.refused status))) =
-      c.of_other (ended (Ended.dropped n (Reason.refused status)))
-      (record {
-        no_progress = refl;
-        no_size = refl;
-        no_number = refl;
-        no_attempt = refl;
-        no_moment = refl;
-        no_take = refl;
-        no_end = refl;
-        no_loss = λ spans. refl;
-      })
+      c.of_other (ended (Ended.dropped n (Reason.refused status))) (silent _ refl)
   by-event (ended (Ended.dropped n Reason.bad_reply)) =
-      c.of_other (ended (Ended.dropped n Reason.bad_reply))
-      (record {
-        no_progress = refl;
-        no_size = refl;
-        no_number = refl;
-        no_attempt = refl;
-        no_moment = refl;
-        no_take = refl;
-        no_end = refl;
-        no_loss = λ spans. refl;
-      })
+      c.of_other (ended (Ended.dropped n Reason.bad_reply)) (silent _ refl)
   by-event (ended (Ended.dropped n Reason.given_up)) =
-      c.of_other (ended (Ended.dropped n Reason.given_up))
-      (record {
-        no_progress = refl;
-        no_size = refl;
-        no_number = refl;
-        no_attempt = refl;
-        no_moment = refl;
-        no_take = refl;
-        no_end = refl;
-        no_loss = λ spans. refl;
-      })
+      c.of_other (ended (Ended.dropped n Reason.given_up)) (silent _ refl)
   by-event (ended (Ended.dropped n Reason.left_handed)) =
-      c.of_other (ended (Ended.dropped n Reason.left_handed))
-      (record {
-        no_progress = refl;
-        no_size = refl;
-        no_number = refl;
-        no_attempt = refl;
-        no_moment = refl;
-        no_take = refl;
-        no_end = refl;
-        no_loss = λ spans. refl;
-      })
-  by-event (ended not_sampled) =
-      c.of_other (ended not_sampled)
-      (record {
-        no_progress = refl;
-        no_size = refl;
-        no_number = refl;
-        no_attempt = refl;
-        no_moment = refl;
-        no_take = refl;
-        no_end = refl;
-        no_loss = λ spans. refl;
-      })
-  by-event (ended already_ended) =
-      c.of_other (ended already_ended)
-      (record {
-        no_progress = refl;
-        no_size = refl;
-        no_number = refl;
-        no_attempt = refl;
-        no_moment = refl;
-        no_take = refl;
-        no_end = refl;
-        no_loss = λ spans. refl;
-      })
-  by-event (started ids) =
-      c.of_other (started ids)
-      (record {
-        no_progress = refl;
-        no_size = refl;
-        no_number = refl;
-        no_attempt = refl;
-        no_moment = refl;
-        no_take = refl;
-        no_end = refl;
-        no_loss = λ spans. refl;
-      })
-  by-event no_randomness =
-      c.of_other no_randomness
-      (record {
-        no_progress = refl;
-        no_size = refl;
-        no_number = refl;
-        no_attempt = refl;
-        no_moment = refl;
-        no_take = refl;
-        no_end = refl;
-        no_loss = λ spans. refl;
-      })
-  by-event no_span =
-      c.of_other no_span
-      (record {
-        no_progress = refl;
-        no_size = refl;
-        no_number = refl;
-        no_attempt = refl;
-        no_moment = refl;
-        no_take = refl;
-        no_end = refl;
-        no_loss = λ spans. refl;
-      })
-  by-event out_of_memory =
-      c.of_other out_of_memory
-      (record {
-        no_progress = refl;
-        no_size = refl;
-        no_number = refl;
-        no_attempt = refl;
-        no_moment = refl;
-        no_take = refl;
-        no_end = refl;
-        no_loss = λ spans. refl;
-      })
-  by-event done =
-      c.of_other done
-      (record {
-        no_progress = refl;
-        no_size = refl;
-        no_number = refl;
-        no_attempt = refl;
-        no_moment = refl;
-        no_take = refl;
-        no_end = refl;
-        no_loss = λ spans. refl;
-      })
-  by-event not_taken =
-      c.of_other not_taken
-      (record {
-        no_progress = refl;
-        no_size = refl;
-        no_number = refl;
-        no_attempt = refl;
-        no_moment = refl;
-        no_take = refl;
-        no_end = refl;
-        no_loss = λ spans. refl;
-      })
-  by-event early =
-      c.of_other early
-      (record {
-        no_progress = refl;
-        no_size = refl;
-        no_number = refl;
-        no_attempt = refl;
-        no_moment = refl;
-        no_take = refl;
-        no_end = refl;
-        no_loss = λ spans. refl;
-      })
-  by-event nothing =
-      c.of_other nothing
-      (record {
-        no_progress = refl;
-        no_size = refl;
-        no_number = refl;
-        no_attempt = refl;
-        no_moment = refl;
-        no_take = refl;
-        no_end = refl;
-        no_loss = λ spans. refl;
-      })
+      c.of_other (ended (Ended.dropped n Reason.left_handed)) (silent _ refl)
+  by-event (ended not_sampled) = c.of_other (ended not_sampled) (silent _ refl)
+  by-event (ended already_ended) = c.of_other (ended already_ended) (silent _ refl)
+  by-event (started ids) = c.of_other (started ids) (silent _ refl)
+  by-event no_randomness = c.of_other no_randomness (silent _ refl)
+  by-event no_span = c.of_other no_span (silent _ refl)
+  by-event out_of_memory = c.of_other out_of_memory (silent _ refl)
+  by-event done = c.of_other done (silent _ refl)
+  by-event not_taken = c.of_other not_taken (silent _ refl)
+  by-event early = c.of_other early (silent _ refl)
+  by-event nothing = c.of_other nothing (silent _ refl)
 
 -- what has to be shown of each answer
 pub record AnswerCases (P : Answer → Type 0) : Type 0 where
@@ -296,66 +141,11 @@ pub record AnswerCases (P : Answer → Type 0) : Type 0 where
 
 answer-cases : (step : Step) (P : Answer → Type 0) → AnswerCases P → EventCases step (λ a o. P a)
 answer-cases step P c = record {
-  of_queued =
-      λ n o. c.of_other (ended (queued n))
-      (record {
-        no_progress = refl;
-        no_size = refl;
-        no_number = refl;
-        no_attempt = refl;
-        no_moment = refl;
-        no_take = refl;
-        no_end = refl;
-        no_loss = λ spans. refl;
-      });
-  of_full =
-      λ n o. c.of_other (ended (Ended.dropped n queue_full))
-      (record {
-        no_progress = refl;
-        no_size = refl;
-        no_number = refl;
-        no_attempt = refl;
-        no_moment = refl;
-        no_take = refl;
-        no_end = refl;
-        no_loss = λ spans. refl;
-      });
-  of_late =
-      c.of_other (ended late)
-      (record {
-        no_progress = refl;
-        no_size = refl;
-        no_number = refl;
-        no_attempt = refl;
-        no_moment = refl;
-        no_take = refl;
-        no_end = refl;
-        no_loss = λ spans. refl;
-      });
-  of_flush =
-      c.of_other Answer.flush
-      (record {
-        no_progress = refl;
-        no_size = refl;
-        no_number = refl;
-        no_attempt = refl;
-        no_moment = refl;
-        no_take = refl;
-        no_end = refl;
-        no_loss = λ spans. refl;
-      });
-  of_shutdown =
-      c.of_other Answer.shutdown
-      (record {
-        no_progress = refl;
-        no_size = refl;
-        no_number = refl;
-        no_attempt = refl;
-        no_moment = refl;
-        no_take = refl;
-        no_end = refl;
-        no_loss = λ spans. refl;
-      });
+  of_queued = λ n o. c.of_other (ended (queued n)) (silent _ refl);
+  of_full = λ n o. c.of_other (ended (Ended.dropped n queue_full)) (silent _ refl);
+  of_late = c.of_other (ended late) (silent _ refl);
+  of_flush = c.of_other Answer.flush (silent _ refl);
+  of_shutdown = c.of_other Answer.shutdown (silent _ refl);
   of_taken = c.of_taken;
   of_encoded = c.of_encoded;
   of_dropped = c.of_dropped;

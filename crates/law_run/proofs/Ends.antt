@@ -13,6 +13,7 @@ use Rattle.model_span.specs.Starts.{StartedSpan, exported_span}
 use Rattle.model_run.specs.Steps.{Parent, Step}
 use Rattle.model_run.specs.History.{Setup, StartResult, start, call, start_count, start_results}
 use Rattle.model_run.specs.History.{exported_of, exported_if_sampled, with_tickets, ended_spans}
+use Rattle.model_run.specs.History.{span_step}
 use Rattle.model_run.proofs.Histories.{outcomes-many, ended-start, ended-no-more, ended-more}
 use Rattle.model_run.specs.Runs.{Answer, Answered, is_refused, span_steps, span_at, calls_so_far}
 use Rattle.model_run.specs.Runs.{ended_by}
@@ -197,77 +198,32 @@ first-end-ends setup h n c answer s r o e f g d =
 
 -- ---- what ended stays
 
-abbrev OneMore : Setup → List Answered → Step → Answer → Type 0
-OneMore setup h step answer =
-    (new : List SpanData) × (ended_by setup (h ++ told step answer ∷ []) ≡ ended_by setup h ++ new)
+exports-few : (n : ℕ) (o : Option SpanData) → length (with_tickets n (option_to_list o)) ≤ 1
+exports-few n None = omega arith
+exports-few n (Some s) = omega arith
+
+-- the spans that end by one step more: at most one
+record OneMore (setup : Setup) (h : List Answered) (step : Step) (answer : Answer) : Type 0 where
+  new : List SpanData
+  are : ended_by setup (h ++ told step answer ∷ []) ≡ ended_by setup h ++ new
+  few : length new ≤ 1
 
 same-ended : (setup : Setup) (h : List Answered) (step : Step) (answer : Answer)
     → ended_by setup (h ++ told step answer ∷ []) ≡ ended_by setup h → OneMore setup h step answer
-same-ended setup h step answer e = ([], e ∙ sym (append-nil (ended_by setup h)))
+same-ended setup h step answer e =
+    record { new = []; are = e ∙ sym (append-nil (ended_by setup h)); few = omega arith }
+
+-- A step that is nothing for the spans ends none.
+other-step : (setup : Setup) (h : List Answered) (step : Step) (answer : Answer)
+    → span_step (is_refused answer) step ≡ None → OneMore setup h step answer
+other-step setup h step answer e =
+    same-ended setup h step answer (ended-none setup h (told step answer) e)
 
 one-more : (setup : Setup) (h : List Answered) (step : Step) (answer : Answer)
     → OneMore setup h step answer
 one-more setup h (Step.start sc p k at name) answer =
     same-ended setup h _ answer (start-ends-none setup h sc p k at name answer)
 one-more setup h (Step.call n c) answer = by (is_refused answer) refl (is_shut h) refl
-  where
-    by : (r : Bool) → is_refused answer ≡ r → (b : Bool) → is_shut h ≡ b
-        → OneMore setup h (Step.call n c) answer
-    by true r b e =
-        same-ended setup h (Step.call n c) answer
-        (ended-none setup h (told (Step.call n c) answer) (rw r refl))
-    by false r true e =
-        same-ended setup h (Step.call n c) answer
-        (ended-shut setup h (told (Step.call n c) answer) e)
-    by false r false e =
-        (cond (is_first h n c) (exports setup h n c) [], call-open setup h n c answer r e)
-one-more setup h Step.flush answer =
-    same-ended setup h Step.flush answer (ended-none setup h (told Step.flush answer) refl)
-one-more setup h Step.shutdown answer =
-    same-ended setup h Step.shutdown answer (ended-none setup h (told Step.shutdown answer) refl)
-one-more setup h (Step.take now) answer =
-    same-ended setup h (Step.take now) answer
-    (ended-none setup h (told (Step.take now) answer) refl)
-one-more setup h Step.encode answer =
-    same-ended setup h Step.encode answer (ended-none setup h (told Step.encode answer) refl)
-one-more setup h (Step.attempt now) answer =
-    same-ended setup h (Step.attempt now) answer
-    (ended-none setup h (told (Step.attempt now) answer) refl)
-one-more setup h (Step.reply now word) answer =
-    same-ended setup h (Step.reply now word) answer
-    (ended-none setup h (told (Step.reply now word) answer) refl)
-
--- A span that has ended keeps its ticket and its value, whatever follows.
-pub ended-stay : OfHistories EndedSpansStay
-ended-stay setup h [] =
-    ([], ap (ended_by setup) (append-nil h) ∙ sym (append-nil (ended_by setup h)))
-ended-stay setup h (x ∷ more) =
-    let first : OneMore setup h x.step x.answer = one-more setup h x.step x.answer in
-    let rest = ended-stay setup (h ++ x ∷ []) more in (
-      first.0 ++ rest.0,
-      ap (ended_by setup) (sym (append_assoc h (x ∷ []) more)) ∙ rest.1
-          ∙ ap (λ l. l ++ rest.0) first.1 ∙ append_assoc (ended_by setup h) first.0 rest.0,
-    )
-
--- ---- how many end
-
-exports-few : (n : ℕ) (o : Option SpanData) → length (with_tickets n (option_to_list o)) ≤ 1
-exports-few n None = omega arith
-exports-few n (Some s) = omega arith
-
-same-few : (setup : Setup) (h : List Answered) (step : Step) (answer : Answer)
-    → ended_by setup (h ++ told step answer ∷ []) ≡ ended_by setup h
-    → length (ended_by setup (h ++ told step answer ∷ [])) ≤ length (ended_by setup h) + 1
-same-few setup h step answer e =
-    let l : length (ended_by setup (h ++ told step answer ∷ [])) ≡ length (ended_by setup h) =
-    ap length e in
-    omega (arith, l)
-
-few-more : (setup : Setup) (h : List Answered) (step : Step) (answer : Answer)
-    → length (ended_by setup (h ++ told step answer ∷ [])) ≤ length (ended_by setup h) + 1
-few-more setup h (Step.start sc p k at name) answer =
-    same-few setup h _ answer (start-ends-none setup h sc p k at name answer)
-few-more setup h (Step.call n c) answer = by (is_refused answer) refl (is_shut h) refl
   where
     one : (b : Bool) → length (cond b (exports setup h n c) []) ≤ 1
     one true =
@@ -277,37 +233,44 @@ few-more setup h (Step.call n c) answer = by (is_refused answer) refl (is_shut h
     one false = omega arith
 
     by : (r : Bool) → is_refused answer ≡ r → (b : Bool) → is_shut h ≡ b
-        → length (ended_by setup (h ++ told (Step.call n c) answer ∷ []))
-        ≤ length (ended_by setup h) + 1
-    by true r b e =
-        same-few setup h (Step.call n c) answer
-        (ended-none setup h (told (Step.call n c) answer) (rw r refl))
+        → OneMore setup h (Step.call n c) answer
+    by true r b e = other-step setup h (Step.call n c) answer (rw r refl)
     by false r true e =
-        same-few setup h (Step.call n c) answer (ended-shut setup h (told (Step.call n c) answer) e)
-    by false r false e =
-        let l : length (ended_by setup (h ++ told (Step.call n c) answer ∷ []))
-        ≡ length (ended_by setup h ++ cond (is_first h n c) (exports setup h n c) []) =
-        ap length (call-open setup h n c answer r e) in
-        let m : length (ended_by setup h ++ cond (is_first h n c) (exports setup h n c) [])
-        ≡ length (ended_by setup h) + length (cond (is_first h n c) (exports setup h n c) []) =
-        length-append (ended_by setup h) (cond (is_first h n c) (exports setup h n c) []) in
-        let few : length (cond (is_first h n c) (exports setup h n c) []) ≤ 1 =
-        one (is_first h n c) in
-        omega (arith, l, m, few)
-few-more setup h Step.flush answer =
-    same-few setup h Step.flush answer (ended-none setup h (told Step.flush answer) refl)
-few-more setup h Step.shutdown answer =
-    same-few setup h Step.shutdown answer (ended-none setup h (told Step.shutdown answer) refl)
-few-more setup h (Step.take now) answer =
-    same-few setup h (Step.take now) answer (ended-none setup h (told (Step.take now) answer) refl)
-few-more setup h Step.encode answer =
-    same-few setup h Step.encode answer (ended-none setup h (told Step.encode answer) refl)
-few-more setup h (Step.attempt now) answer =
-    same-few setup h (Step.attempt now) answer
-    (ended-none setup h (told (Step.attempt now) answer) refl)
-few-more setup h (Step.reply now word) answer =
-    same-few setup h (Step.reply now word) answer
-    (ended-none setup h (told (Step.reply now word) answer) refl)
+        same-ended setup h (Step.call n c) answer
+        (ended-shut setup h (told (Step.call n c) answer) e)
+    by false r false e = record {
+      new = cond (is_first h n c) (exports setup h n c) [];
+      are = call-open setup h n c answer r e;
+      few = one (is_first h n c);
+    }
+one-more setup h Step.flush answer = other-step setup h Step.flush answer refl
+one-more setup h Step.shutdown answer = other-step setup h Step.shutdown answer refl
+one-more setup h (Step.take now) answer = other-step setup h (Step.take now) answer refl
+one-more setup h Step.encode answer = other-step setup h Step.encode answer refl
+one-more setup h (Step.attempt now) answer = other-step setup h (Step.attempt now) answer refl
+one-more setup h (Step.reply now word) answer =
+    other-step setup h (Step.reply now word) answer refl
+
+-- A span that has ended keeps its ticket and its value, whatever follows.
+pub ended-stay : OfHistories EndedSpansStay
+ended-stay setup h [] =
+    ([], ap (ended_by setup) (append-nil h) ∙ sym (append-nil (ended_by setup h)))
+ended-stay setup h (x ∷ more) =
+    let first : OneMore setup h x.step x.answer = one-more setup h x.step x.answer in
+    let rest = ended-stay setup (h ++ x ∷ []) more in (
+      first.new ++ rest.0,
+      ap (ended_by setup) (sym (append_assoc h (x ∷ []) more)) ∙ rest.1
+          ∙ ap (λ l. l ++ rest.0) first.are ∙ append_assoc (ended_by setup h) first.new rest.0,
+    )
+
+-- ---- how many end
+
+few-more : (setup : Setup) (h : List Answered) (step : Step) (answer : Answer)
+    → length (ended_by setup (h ++ told step answer ∷ [])) ≤ length (ended_by setup h) + 1
+few-more setup h step answer =
+    let one = one-more setup h step answer in
+    rw (one.are, length-append (ended_by setup h) one.new)
+    (omega (arith, one.few))
 
 few-after : (setup : Setup) (h more : List Answered) → length (ended_by setup h) ≤ length h
     → length (ended_by setup (h ++ more)) ≤ length (h ++ more)

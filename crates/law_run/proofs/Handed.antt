@@ -13,7 +13,7 @@ use Rattle.model_span.specs.Attributes.{distinct_of}
 use Rattle.model_span.specs.Dropped.{queue_full}
 use Rattle.model_span.specs.Spans.{SpanData}
 use Rattle.model_span.proofs.Lists.{distinct-more}
-use Rattle.model_retry.specs.Retries.{Outcome, Next, Fate, fate_of}
+use Rattle.model_desk.specs.Retries.{Outcome, Next, Fate, fate_of}
 use Rattle.model_desk.specs.Queue.{DeskEvent, size_of_take, batch_sizes, batch_spans, last_batch}
 use Rattle.model_desk.specs.Queue.{spans_handed_by, handed_spans}
 use Rattle.model_desk.specs.Queue as desk

@@ -5,7 +5,7 @@ use Rattle.std.specs.Prelude.{◌==◌, if◌then◌else◌, option_to_list}
 use Rattle.std.proofs.lemmas.List.{append-nil}
 use Rattle.model_span.specs.Spans.{SpanData}
 use Rattle.model_span.specs.Dropped.{Entry}
-use Rattle.model_retry.specs.Retries.{Fate, fate_of}
+use Rattle.model_desk.specs.Retries.{Fate, fate_of}
 use Rattle.model_desk.specs.Queue.{DeskEvent, last_spans, losses_by, losses, lost_as}
 use Rattle.model_desk.specs.Queue as desk
 use Rattle.model_desk.proofs.Lists.{gather-more}

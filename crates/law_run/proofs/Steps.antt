@@ -11,8 +11,8 @@ use Rattle.model_span.specs.Dropped.{Reason, queue_full, encode_memory, too_larg
 use Rattle.model_span.specs.Sampling.{is_sampled}
 use Rattle.model_span.specs.Spans.{SpanData, Kind, Call, is_end}
 use Rattle.model_span.specs.Starts.{StartedSpan}
-use Rattle.model_retry.specs.Retries.{Outcome, Cause, Next, again, give_up, Fate, fate_of}
-use Rattle.model_retry.specs.Waits.{next_after}
+use Rattle.model_desk.specs.Retries.{Outcome, Cause, Next, again, give_up, Fate, fate_of}
+use Rattle.model_desk.specs.Waits.{next_after}
 use Rattle.model_desk.specs.Queue.{DeskEvent, tickets, waiting_spans, in_hand_spans, handed_spans}
 use Rattle.model_desk.specs.Queue.{drops, last_batch, last_size, in_hand, with_exporter, stage}
 use Rattle.model_desk.specs.Queue.{is_closed}
@@ -494,23 +494,19 @@ account run h w = (accounts run h w).0
 
 -- The spans that wait are spans that ended, each with its ticket and value.
 pub waiting-are-ended : OfRuns (λ run. WaitingAreEnded run.setup)
-waiting-are-ended run h w =
-    let a : Account run h = account run h w in values.waiting-are-ended run.setup h a.are
+waiting-are-ended run h w = values.waiting-are-ended run.setup h (account run h w).are
 
 -- The spans of each batch are spans that ended, each with its ticket and value.
 pub batches-are-ended : OfRuns (λ run. BatchesAreEnded run.setup)
-batches-are-ended run h w =
-    let a : Account run h = account run h w in values.batches-are-ended run.setup h a.are
+batches-are-ended run h w = values.batches-are-ended run.setup h (account run h w).are
 
 -- The names of lost spans are those of spans that ended, each with its ticket.
 pub losses-name-ended : OfRuns (λ run. LossesNameEnded run.setup)
-losses-name-ended run h w =
-    let a : Account run h = account run h w in values.losses-name-ended run.setup h a.are
+losses-name-ended run h w = values.losses-name-ended run.setup h (account run h w).are
 
 -- The names of dropped spans are those of spans that ended, each with its ticket.
 pub drops-name-ended : OfRuns (λ run. DropsNameEnded run.setup)
-drops-name-ended run h w =
-    let a : Account run h = account run h w in values.drops-name-ended run.setup h a.are
+drops-name-ended run h w = values.drops-name-ended run.setup h (account run h w).are
 
 -- ---- no span is unaccounted for
 

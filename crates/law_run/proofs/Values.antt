@@ -20,7 +20,7 @@ use Rattle.model_run.specs.History.{Setup, span_step, ended_spans, granted_steps
 use Rattle.model_run.specs.Runs.{Answered, is_refused, span_steps, before_shutdown, ended_by}
 use Rattle.model_run.specs.Runs.{event_by, events_after, desk_events}
 use Rattle.model_run.specs.Answers.{RunConfig, desk_after}
-use Rattle.model_retry.specs.Retries.{Fate, fate_of}
+use Rattle.model_desk.specs.Retries.{Fate, fate_of}
 use Rattle.law_run.specs.Laws.{OfHistories, IsEndedSpan, NamesEndedSpan, WaitingAreEnded}
 use Rattle.law_run.specs.Laws.{BatchesAreEnded, DropsNameEnded, EndedByTheSteps, LossesNameEnded}
 use Rattle.law_run.specs.Laws.{LedgerNamesTheDropped, LedgerNamesTheLost}

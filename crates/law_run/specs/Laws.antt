@@ -9,12 +9,12 @@ use Rattle.model_span.specs.Attributes.{last_or}
 use Rattle.model_span.specs.Dropped.{Reason, queue_full, encode_memory, too_large, Entry, entry_of}
 use Rattle.model_span.specs.Sampling.{is_sampled}
 use Rattle.model_span.specs.Spans.{SpanData, is_end}
-use Rattle.model_retry.specs.Retries.{Outcome, Next, again, give_up, fate_of}
+use Rattle.model_desk.specs.Retries.{Outcome, Next, again, give_up, fate_of}
 use Rattle.model_desk.specs.Queue.{waiting_spans, batch_spans, last_spans, handed_spans, drops}
 use Rattle.model_desk.specs.Queue.{lost_as, losses}
 use Rattle.model_desk.specs.Desks.{is_due, AreAllowed}
 use Rattle.law_desk.specs.Queues.{times, AreApart}
-use Rattle.model_retry.specs.Waits.{IsRetryConfig, next_after}
+use Rattle.model_desk.specs.Waits.{IsRetryConfig, next_after}
 use Rattle.model_run.specs.Steps.{Step, is_shutdown}
 use Rattle.model_run.specs.History.{Setup, ended_spans, granted_steps}
 use Rattle.model_run.specs.Runs.{Ended, Answer, started, no_randomness, no_span, out_of_memory}

@@ -7,7 +7,7 @@ use Rattle.std.specs.List.{list_any}
 use Rattle.std.proofs.lemmas.List.Sums.{sum_by-append}
 use Rattle.model_span.specs.Spans.{SpanData}
 use Rattle.model_span.specs.Dropped.{Reason, Entry, entry_of, is_reason, count_of_reason}
-use Rattle.model_retry.specs.Retries.{Fate}
+use Rattle.model_desk.specs.Retries.{Fate}
 use Rattle.model_desk.specs.Queue.{is_late, DeskEvent, queued, full, late, flush, shutdown, taken}
 use Rattle.model_desk.specs.Queue.{handed, dropped, settled, popped, popped_lost, asks, asked_count}
 use Rattle.model_desk.specs.Queue.{accepted_spans, queued_span, size_of_take, ticket_of, tickets}

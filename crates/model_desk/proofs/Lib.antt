@@ -1,3 +1,4 @@
+pub mod Again
 pub mod Lists
 pub mod Steps
 pub mod Events

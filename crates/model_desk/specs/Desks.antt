@@ -5,7 +5,7 @@ use Rattle.std.specs.Prelude.{false, not, ◌&&◌, ◌||◌, if◌then◌else�
 use Rattle.std.specs.Prelude.{reverse, count_by, Option, Some, None, is_some}
 use Rattle.model_span.specs.Spans.{SpanData}
 use Rattle.model_span.specs.Dropped.{Reason, Entry, can_drop_batch, count_of_reason}
-use Rattle.model_retry.specs.Retries.{Fate}
+use Rattle.model_desk.specs.Retries.{Fate}
 use Rattle.model_desk.specs.Queue.{DeskEvent, queued, full, late, flush, shutdown, taken, handed}
 use Rattle.model_desk.specs.Queue.{dropped, settled, popped, popped_lost, tickets, taken_count}
 use Rattle.model_desk.specs.Queue.{waiting_spans, last_batch, last_spans, last_size, Stage, not_out}

@@ -1,2 +1,4 @@
+pub mod Retries
+pub mod Waits
 pub mod Queue
 pub mod Desks

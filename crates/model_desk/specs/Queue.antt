@@ -10,7 +10,7 @@ use Rattle.model_span.specs.Spans.{SpanData}
 use Rattle.model_span.specs.Dropped.{Reason, queue_full, bad_reply, given_up, left_handed, Entry}
 use Rattle.model_span.specs.Dropped.{entry_of}
 use Rattle.model_span.specs.Dropped as reasons
-use Rattle.model_retry.specs.Retries.{Fate}
+use Rattle.model_desk.specs.Retries.{Fate}
 
 -- What was done, and what was answered. A list of these is a history, the first one first.
 pub data DeskEvent : Type 0 where

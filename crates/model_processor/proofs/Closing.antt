@@ -9,7 +9,7 @@ use Rattle.std.proofs.lemmas.List.Sorted.{IsPermutation-append_left, IsPermutati
 use Rattle.std.proofs.lemmas.List.Sorted.{IsPermutation-append_comm}
 use Rattle.account_book.specs.Accounts.{Replaces, Removes, Closes}
 use Rattle.account_book.proofs.Facts.{each_closed, each_map, each_removed, each_same, gathered_all}
-use Rattle.account_book.proofs.Facts.{length_removed, nothing_of, one_removed, one_replaced}
+use Rattle.account_book.proofs.Facts.{length_removed, nothing_of, one_removed}
 use Rattle.account_book.proofs.Facts.{part_kept, part_removed}
 use Rattle.model_span.specs.Spans.{SpanData}
 use Rattle.model_span.specs.Dropped.{Entry}
@@ -27,10 +27,11 @@ use Rattle.model_processor.specs.Worker.{worker_losses}
 use Rattle.model_processor.specs.Batches.{EndByWork, Origin}
 use Rattle.model_processor.specs.WorkerClauses.{AreFrom, DropsFoundItFull, FoundItFull, IsAccounted}
 use Rattle.model_processor.specs.WorkerClauses.{QueuedAreAccounted}
-use Rattle.model_processor.specs.AnyAccounts.{AnyAccount, new_origin, pass, pass_account}
+use Rattle.model_processor.specs.AnyAccounts.{AnyAccount, pass, pass_account}
 use Rattle.model_processor.specs.AnyAccounts.{pass_accounts, processor, worker, worker_account}
 use Rattle.model_processor.specs.AnyAccounts.{worker_accounts}
 use Rattle.model_processor.specs.Kept.{Agrees, IsAccountOf, IsOf, KeepsFloor, Kept, accepted}
+use Rattle.model_processor.proofs.Holders.{first_set, new_passes, no_workers, of_passes}
 use Rattle.model_processor.proofs.Lists.{between-same}
 use Rattle.model_processor.proofs.Reasons.{all_lost, none_full, none_lost}
 
@@ -309,21 +310,6 @@ two_replaced {V} x u v w new apart r = by_before r.0 r.1 r.2 r.3
         let parts = length-append before (v ∷ appended) in
         absurd (omega arith)
 
-new_accounts : (holders : List AnyAccount) → AllByRecursion (λ h. h ≡ pass new_account) holders
-    → AllByRecursion (λ a. a ≡ new_account) (pass_accounts holders) × (worker_accounts holders ≡ [])
-new_accounts [] all = (tt, refl)
-new_accounts (h ∷ holders) all =
-    let rest = new_accounts holders all.1 in
-    subst (λ (x : AnyAccount). AllByRecursion (λ a. a ≡ new_account) (pass_accounts (x ∷ holders))
-    × (worker_accounts (x ∷ holders) ≡ []))
-    (sym all.0) ((refl, rest.0), rest.1)
-
-of_passes : (origin : Origin) (holders : List AnyAccount)
-    → AllByRecursion (λ h. h ≡ pass new_account) holders → AllByRecursion (IsOf origin) holders
-of_passes origin [] all = tt
-of_passes origin (h ∷ holders) all =
-    (subst (IsOf origin) (sym all.0) tt, of_passes origin holders all.1)
-
 kept_new : (origin : Origin) (made : ℕ) (holders opened : List AnyAccount)
     → holders ≡ processor origin ∷ worker origin new_worker ∷ opened → length opened ≤ origin.passes
     → 1 ≤ origin.desk.batch → AllByRecursion (λ h. h ≡ pass new_account) opened
@@ -336,35 +322,31 @@ kept_new origin made holders opened is few sizes all =
       config = refl;
       sizes = sizes;
       account = new_worker;
-      one_worker = ap (λ (l : List WorkerAccount). new_worker ∷ l) (new_accounts opened all).1;
+      one_worker = ap (λ (l : List WorkerAccount). new_worker ∷ l) (no_workers opened all);
       left_is = refl;
-      agrees = agrees_new origin.desk made (pass_accounts opened) (new_accounts opened all).0;
+      agrees = agrees_new origin.desk made (pass_accounts opened) (new_passes opened all);
     })
 
--- What the lock keeps holds of a new desk, once the processor's account, the worker's and those of
--- the passes were opened in turn.
+-- What the lock keeps holds of a new desk, once the processor's account and the worker's were
+-- opened and set, and then those of the passes were opened.
 pub kept_begins : (origin : Origin) (made : ℕ) (desk : Desk)
     (empty one first two second holders opened : List AnyAccount) (p p' u u' : AnyAccount)
-    → desk ≡ new_desk origin.desk made → empty ≡ [] → one ≡ empty ++ processor new_origin ∷ []
+    → desk ≡ new_desk origin.desk made → empty ≡ [] → one ≡ empty ++ pass new_account ∷ []
     → Replaces one p p' first → p' ≡ processor origin
-    → two ≡ first ++ worker new_origin new_worker ∷ [] → u ≡ worker new_origin new_worker
+    → two ≡ first ++ pass new_account ∷ [] → u ≡ pass new_account
     → Replaces two u u' second → u' ≡ worker origin new_worker → holders ≡ second ++ opened
     → length opened ≤ origin.passes → 1 ≤ origin.desk.batch
     → AllByRecursion (λ h. h ≡ pass new_account) opened → Kept origin false desk holders
 kept_begins origin made desk empty one first two second holders opened p p' u u' desk_is none one_is
     r p_is two_is u_is q v_is is few sizes all =
-    let w0 = worker new_origin new_worker in
-    let single : one ≡ processor new_origin ∷ [] =
-    one_is ∙ ap (λ (hs : List AnyAccount). hs ++ processor new_origin ∷ []) none in
+    let new : AnyAccount = pass new_account in
     let begun : first ≡ processor origin ∷ [] =
-    (one_replaced (processor new_origin) p p' first
-    (subst (λ (hs : List AnyAccount). Replaces hs p p' first) single r)).1
-    ∙ ap (λ (h : AnyAccount). h ∷ []) p_is in
-    let both : two ≡ processor origin ∷ w0 ∷ [] =
-    two_is ∙ ap (λ (hs : List AnyAccount). hs ++ w0 ∷ []) begun in
+    first_set empty one first new p p' (processor origin) none one_is r p_is in
+    let both : two ≡ processor origin ∷ new ∷ [] =
+    two_is ∙ ap (λ (hs : List AnyAccount). hs ++ new ∷ []) begun in
     let told : second ≡ processor origin ∷ u' ∷ [] =
-    two_replaced (processor origin) w0 u u' second
-    (λ e. let f : processor origin ≡ w0 = e ∙ u_is in cc)
+    two_replaced (processor origin) new u u' second
+    (λ e. let f : processor origin ≡ new = e ∙ u_is in cc)
     (subst (λ (hs : List AnyAccount). Replaces hs u u' second) both q) in
     let whole : holders ≡ processor origin ∷ worker origin new_worker ∷ opened =
     is

@@ -1,5 +1,6 @@
 pub mod PassLists
 pub mod PassSteps
+pub mod Holders
 pub mod Lists
 pub mod Parts
 pub mod Passes

@@ -1,6 +1,6 @@
 -- What a hold of the lock for a pass does to what the lock keeps.
-use Rattle.std.proofs.Common.{◌≡◌, ℕ, ◌+◌, ◌-◌, ◌^◌, ◌<◌, ◌≤◌, true, false, List, [], ◌∷◌, ◌++◌}
-use Rattle.std.proofs.Common.{length, sym, refl, ap, ◌∙◌, subst, arith}
+use Rattle.std.proofs.Common.{◌≡◌, ℕ, ◌+◌, ◌-◌, ◌^◌, ◌<◌, ◌≤◌, Bool, true, false, List, [], ◌∷◌}
+use Rattle.std.proofs.Common.{◌++◌, length, sym, refl, ap, ◌∙◌, subst, arith}
 use Rattle.std.specs.Prelude.{IsPermutation, filter_map, ◌==◌}
 use Rattle.std.specs.List.{AllByRecursion, range_with_len}
 use Rattle.std.proofs.lemmas.List.{append-nil, append_assoc, length-append}
@@ -158,6 +158,14 @@ nothing_queued : (next : ℕ) → QueueNews next next [] []
 nothing_queued next =
     record { news = no_news next; spans = refl; spans_rise = tt; spans_from = tt; spans_upto = tt }
 
+-- A list is its first entry, taken out, and the others.
+first_out : (whole others : List Entry) (entry : Entry) → whole ≡ entry ∷ others
+    → IsPermutation whole (others ++ entry ∷ [])
+first_out whole others entry first =
+    subst (λ (es : List Entry). IsPermutation es (others ++ entry ∷ [])) (sym first)
+    (IsPermutation-sym (others ++ entry ∷ []) (entry ∷ others)
+    (IsPermutation-to_front others entry))
+
 -- A floor is kept where no span was queued.
 still_above : (next : ℕ) (waiting spans : List SpanData) (floor : ℕ) (asked : Asked)
     → KeepsFloor next waiting spans floor asked
@@ -207,14 +215,24 @@ module _ (desk : Desk) (w : WorkerAccount) (old new : List PassAccount) (a b : P
       each_at (λ (x : PassAccount). x.told_left ≡ true → w.left ≡ true) old a b new r k.told
       (sym same ∙ is)
 
-  -- The accounts agree where a pass learns something and the desk changes in what is asked alone.
-  quiet : (ask : ℕ) → b.ends ≡ a.ends → b.popped ≡ a.popped → b.popped_lost ≡ a.popped_lost
-      → b.late ≡ a.late → b.shutdowns ≡ a.shutdowns → (b.told_left ≡ true → w.left ≡ true)
+  floor_kept : b.floor ≡ a.floor → b.asked ≡ a.asked
       → KeepsFloor desk.next_ticket desk.waiting (accepted desk w) b.floor b.asked
-      → Agrees (record desk { asked = ask }) new w
-  quiet ask ends popped lost late shuts tells one =
-      agrees_pass desk (record desk { asked = ask }) w old new a b r k [] [] []
-      (nothing_queued desk.next_ticket)
+  floor_kept floor asked = rw (floor, asked) floor_of
+
+  -- The accounts agree where no span ends: the desk changes in what is asked, whether it is closed,
+  -- in the late spans and in the ledgers, of which the pass pops entries.
+  unended : (ask : ℕ) (shut : Bool) (late : ℕ) (ledger lost ps : List Entry)
+      → (desk.closed ≡ true → shut ≡ true)
+      → b.ends ≡ a.ends → b.popped ≡ a.popped ++ ps → IsPermutation desk.ledger (ledger ++ ps)
+      → CountsLate late desk.next_ticket shut new → (b.told_left ≡ true → w.left ≡ true)
+      → KeepsFloor desk.next_ticket desk.waiting (accepted desk w) b.floor b.asked
+      → PopsLost desk (record desk { lost = lost }) a b
+      → Agrees
+      (record desk { asked = ask; closed = shut; late = late; ledger = ledger; lost = lost }) new w
+  unended ask shut late ledger lost ps closes ends popped names counts tells one pops =
+      let desk' =
+      record desk { asked = ask; closed = shut; late = late; ledger = ledger; lost = lost } in
+      agrees_pass desk desk' w old new a b r k [] [] ps (nothing_queued desk.next_ticket)
       (record {
         config = refl;
         waiting = sym (append-nil desk.waiting);
@@ -223,12 +241,21 @@ module _ (desk : Desk) (w : WorkerAccount) (old new : List PassAccount) (a b : P
         batches = refl;
         fates = refl;
         handed = refl;
-        closed = λ c. (c, refl);
+        closed = λ c. (closes c, refl);
       })
-      (ends ∙ sym (append-nil a.ends))
-      (popped ∙ sym (append-nil a.popped)) tt same_ledger same_counts (same_late late shuts) tells
-      (still_above desk.next_ticket desk.waiting (accepted desk w) b.floor b.asked one)
-      tt (pops_none desk (record desk { asked = ask }) a b lost refl refl)
+      (ends ∙ sym (append-nil a.ends)) popped tt names same_counts counts tells
+      (still_above desk.next_ticket desk.waiting (accepted desk w) b.floor b.asked one) tt
+      (record { popped = pops.popped; told = pops.told; taken = pops.taken; count = pops.count })
+
+  -- The accounts agree where a pass learns something and the desk changes in what is asked alone.
+  quiet : (ask : ℕ) → b.ends ≡ a.ends → b.popped ≡ a.popped → b.popped_lost ≡ a.popped_lost
+      → b.late ≡ a.late → b.shutdowns ≡ a.shutdowns → (b.told_left ≡ true → w.left ≡ true)
+      → KeepsFloor desk.next_ticket desk.waiting (accepted desk w) b.floor b.asked
+      → Agrees (record desk { asked = ask }) new w
+  quiet ask ends popped lost late shuts tells one =
+      unended ask desk.closed desk.late desk.ledger desk.lost [] (λ c. c) ends
+      (popped ∙ sym (append-nil a.popped)) same_ledger (same_late late shuts) tells one
+      (pops_none desk desk a b lost refl refl)
 
   -- The accounts agree after a flush, which asks for all spans accepted so far.
   pub flush_agrees : (desk' : Desk) → desk' ≡ record desk { asked = accepted_count desk }
@@ -261,7 +288,7 @@ module _ (desk : Desk) (w : WorkerAccount) (old new : List PassAccount) (a b : P
       (ap (λ (x : PassAccount). x.popped) told) (ap (λ (x : PassAccount). x.popped_lost) told)
       (ap (λ (x : PassAccount). x.late) told) (ap (λ (x : PassAccount). x.shutdowns) told)
       (λ _. left)
-      (rw (ap (λ (x : PassAccount). x.floor) told, ap (λ (x : PassAccount). x.asked) told) floor_of)
+      (floor_kept (ap (λ (x : PassAccount). x.floor) told) (ap (λ (x : PassAccount). x.asked) told))
 
   -- The accounts agree after a shutdown, which asks for all accepted spans and closes the desk.
   pub shutdown_agrees : (desk' : Desk)
@@ -281,93 +308,48 @@ module _ (desk : Desk) (w : WorkerAccount) (old new : List PassAccount) (a b : P
       (floor_asked desk.next_ticket desk.waiting (accepted desk w) a.floor
       (accepted_count desk) a.asked count_is floor_of) in
       subst (λ (d : Desk). Agrees d new w) (sym is)
-      (agrees_pass desk
-      (record desk { asked = accepted_count desk; closed = true }) w old new a b r k [] [] []
-      (nothing_queued desk.next_ticket)
-      (record {
-        config = refl;
-        waiting = sym (append-nil desk.waiting);
-        out = refl;
-        taken = refl;
-        batches = refl;
-        fates = refl;
-        handed = refl;
-        closed = λ c. (refl, refl);
-      })
-      (ap (λ (x : PassAccount). x.ends) told ∙ sym (append-nil a.ends))
-      (ap (λ (x : PassAccount). x.popped) told ∙ sym (append-nil a.popped)) tt same_ledger
-      same_counts late
-      (still_told (ap (λ (x : PassAccount). x.told_left) told))
-      (still_above desk.next_ticket desk.waiting (accepted desk w) b.floor b.asked one)
-      tt (pops_none desk (record desk { asked = accepted_count desk; closed = true }) a b
-      (ap (λ (x : PassAccount). x.popped_lost) told) refl refl))
+      (unended (accepted_count desk) true desk.late desk.ledger desk.lost [] (λ c. refl)
+      (ap (λ (x : PassAccount). x.ends) told)
+      (ap (λ (x : PassAccount). x.popped) told ∙ sym (append-nil a.popped)) same_ledger late
+      (still_told (ap (λ (x : PassAccount). x.told_left) told)) one
+      (pops_none desk desk a b (ap (λ (x : PassAccount). x.popped_lost) told) refl refl))
+
+  -- The accounts agree where a pass takes entries out of the ledgers, and nothing else is new.
+  takes_out : (ledger lost ps : List Entry) → b.ends ≡ a.ends → b.popped ≡ a.popped ++ ps
+      → IsPermutation desk.ledger (ledger ++ ps) → b.late ≡ a.late → b.shutdowns ≡ a.shutdowns
+      → b.told_left ≡ a.told_left → b.floor ≡ a.floor → b.asked ≡ a.asked
+      → PopsLost desk (record desk { lost = lost }) a b
+      → Agrees (record desk { ledger = ledger; lost = lost }) new w
+  takes_out ledger lost ps ends popped names late shuts left floor asked pops =
+      unended desk.asked desk.closed desk.late ledger lost ps (λ c. c) ends popped names
+      (same_late late shuts) (still_told left) (floor_kept floor asked) pops
 
   -- The accounts agree after a pass pops the newest entry of the ledger.
   pub pop_agrees : (desk' : Desk) (entry : Entry) → desk.ledger ≡ entry ∷ desk'.ledger
       → desk' ≡ record desk { ledger = desk'.ledger } → b ≡ after_pop entry a → Agrees desk' new w
   pop_agrees desk' entry first is told =
-      let one : KeepsFloor desk.next_ticket desk.waiting (accepted desk w) b.floor b.asked =
-      rw
-      (ap (λ (x : PassAccount). x.floor) told, ap (λ (x : PassAccount). x.asked) told) floor_of in
       subst (λ (d : Desk). Agrees d new w) (sym is)
-      (agrees_pass desk (record desk { ledger = desk'.ledger }) w old new a b r k [] [] (entry ∷ [])
-      (nothing_queued desk.next_ticket)
-      (record {
-        config = refl;
-        waiting = sym (append-nil desk.waiting);
-        out = refl;
-        taken = refl;
-        batches = refl;
-        fates = refl;
-        handed = refl;
-        closed = λ c. (c, refl);
-      })
-      (ap (λ (x : PassAccount). x.ends) told ∙ sym (append-nil a.ends))
-      (ap (λ (x : PassAccount). x.popped) told) tt
-      (subst (λ (es : List Entry). IsPermutation es (desk'.ledger ++ entry ∷ [])) (sym first)
-      (IsPermutation-sym (desk'.ledger ++ entry ∷ []) (entry ∷ desk'.ledger)
-      (IsPermutation-to_front desk'.ledger entry)))
-      same_counts (same_late (ap (λ (x : PassAccount). x.late) told)
-      (ap (λ (x : PassAccount). x.shutdowns) told))
-      (still_told (ap (λ (x : PassAccount). x.told_left) told))
-      (still_above desk.next_ticket desk.waiting (accepted desk w) b.floor b.asked one)
-      tt (pops_none desk (record desk { ledger = desk'.ledger }) a b
-      (ap (λ (x : PassAccount). x.popped_lost) told) refl refl))
+      (takes_out desk'.ledger desk.lost (entry ∷ []) (ap (λ (x : PassAccount). x.ends) told)
+      (ap (λ (x : PassAccount). x.popped) told)
+      (first_out desk.ledger desk'.ledger entry first) (ap (λ (x : PassAccount). x.late) told)
+      (ap (λ (x : PassAccount). x.shutdowns) told) (ap (λ (x : PassAccount). x.told_left) told)
+      (ap (λ (x : PassAccount). x.floor) told) (ap (λ (x : PassAccount). x.asked) told)
+      (pops_none desk desk a b (ap (λ (x : PassAccount). x.popped_lost) told) refl refl))
 
   -- The accounts agree after a pass pops the newest entry of the ledger of lost spans.
   pub pop_lost_agrees : (desk' : Desk) (entry : Entry) → desk.lost ≡ entry ∷ desk'.lost
       → desk' ≡ record desk { lost = desk'.lost } → b ≡ after_pop_lost entry a → Agrees desk' new w
   pop_lost_agrees desk' entry first is told =
-      let one : KeepsFloor desk.next_ticket desk.waiting (accepted desk w) b.floor b.asked =
-      rw
-      (ap (λ (x : PassAccount). x.floor) told, ap (λ (x : PassAccount). x.asked) told) floor_of in
-      let desk2 = record desk { lost = desk'.lost } in
       subst (λ (d : Desk). Agrees d new w) (sym is)
-      (agrees_pass desk desk2 w old new a b r k [] [] [] (nothing_queued desk.next_ticket)
-      (record {
-        config = refl;
-        waiting = sym (append-nil desk.waiting);
-        out = refl;
-        taken = refl;
-        batches = refl;
-        fates = refl;
-        handed = refl;
-        closed = λ c. (c, refl);
-      })
-      (ap (λ (x : PassAccount). x.ends) told ∙ sym (append-nil a.ends))
-      (ap (λ (x : PassAccount). x.popped) told ∙ sym (append-nil a.popped)) tt same_ledger
-      same_counts (same_late (ap (λ (x : PassAccount). x.late) told)
-      (ap (λ (x : PassAccount). x.shutdowns) told))
-      (still_told (ap (λ (x : PassAccount). x.told_left) told))
-      (still_above desk.next_ticket desk.waiting (accepted desk w) b.floor b.asked one)
-      tt
+      (takes_out desk.ledger desk'.lost [] (ap (λ (x : PassAccount). x.ends) told)
+      (ap (λ (x : PassAccount). x.popped) told ∙ sym (append-nil a.popped)) same_ledger
+      (ap (λ (x : PassAccount). x.late) told) (ap (λ (x : PassAccount). x.shutdowns) told)
+      (ap (λ (x : PassAccount). x.told_left) told) (ap (λ (x : PassAccount). x.floor) told)
+      (ap (λ (x : PassAccount). x.asked) told)
       (record {
         popped = entry ∷ [];
         told = ap (λ (x : PassAccount). x.popped_lost) told;
-        taken =
-            subst (λ (es : List Entry). IsPermutation es (desk'.lost ++ entry ∷ [])) (sym first)
-            (IsPermutation-sym (desk'.lost ++ entry ∷ []) (entry ∷ desk'.lost)
-            (IsPermutation-to_front desk'.lost entry));
+        taken = first_out desk.lost desk'.lost entry first;
         count = refl;
       }))
 
@@ -376,29 +358,11 @@ module _ (desk : Desk) (w : WorkerAccount) (old new : List PassAccount) (a b : P
       → IsPermutation desk.lost ls → desk' ≡ record desk { ledger = []; lost = [] }
       → b ≡ after_drain ds ls a → Agrees desk' new w
   drain_agrees desk' ds ls all all_lost is told =
-      let one : KeepsFloor desk.next_ticket desk.waiting (accepted desk w) b.floor b.asked =
-      rw
-      (ap (λ (x : PassAccount). x.floor) told, ap (λ (x : PassAccount). x.asked) told) floor_of in
-      let desk2 = record desk { ledger = []; lost = [] } in
       subst (λ (d : Desk). Agrees d new w) (sym is)
-      (agrees_pass desk desk2 w old new a b r k [] [] ds (nothing_queued desk.next_ticket)
-      (record {
-        config = refl;
-        waiting = sym (append-nil desk.waiting);
-        out = refl;
-        taken = refl;
-        batches = refl;
-        fates = refl;
-        handed = refl;
-        closed = λ c. (c, refl);
-      })
-      (ap (λ (x : PassAccount). x.ends) told ∙ sym (append-nil a.ends))
-      (ap (λ (x : PassAccount). x.popped) told) tt all
-      same_counts (same_late (ap (λ (x : PassAccount). x.late) told)
-      (ap (λ (x : PassAccount). x.shutdowns) told))
-      (still_told (ap (λ (x : PassAccount). x.told_left) told))
-      (still_above desk.next_ticket desk.waiting (accepted desk w) b.floor b.asked one)
-      tt
+      (takes_out [] [] ds (ap (λ (x : PassAccount). x.ends) told)
+      (ap (λ (x : PassAccount). x.popped) told) all (ap (λ (x : PassAccount). x.late) told)
+      (ap (λ (x : PassAccount). x.shutdowns) told) (ap (λ (x : PassAccount). x.told_left) told)
+      (ap (λ (x : PassAccount). x.floor) told) (ap (λ (x : PassAccount). x.asked) told)
       (record {
         popped = ls;
         told = ap (λ (x : PassAccount). x.popped_lost) told;
@@ -411,9 +375,6 @@ module _ (desk : Desk) (w : WorkerAccount) (old new : List PassAccount) (a b : P
       → desk' ≡ record desk { late = capped (desk.late + 1) } → b ≡ after_late a
       → Agrees desk' new w
   late_agrees desk' closed is told =
-      let one : KeepsFloor desk.next_ticket desk.waiting (accepted desk w) b.floor b.asked =
-      rw
-      (ap (λ (x : PassAccount). x.floor) told, ap (λ (x : PassAccount). x.asked) told) floor_of in
       let late =
       late_step desk.next_ticket desk.next_ticket desk.late
       (capped (desk.late + 1)) desk.closed desk.closed old new a b r k.late 1 0
@@ -422,25 +383,12 @@ module _ (desk : Desk) (w : WorkerAccount) (old new : List PassAccount) (a b : P
       (λ n is. omega arith) (λ n was some. closed)
       (λ n is. is ∙ ap (closed_by desk.next_ticket) (none_more n)) in
       subst (λ (d : Desk). Agrees d new w) (sym is)
-      (agrees_pass desk (record desk { late = capped (desk.late + 1) }) w old new a b r k [] [] []
-      (nothing_queued desk.next_ticket)
-      (record {
-        config = refl;
-        waiting = sym (append-nil desk.waiting);
-        out = refl;
-        taken = refl;
-        batches = refl;
-        fates = refl;
-        handed = refl;
-        closed = λ c. (c, refl);
-      })
-      (ap (λ (x : PassAccount). x.ends) told ∙ sym (append-nil a.ends))
-      (ap (λ (x : PassAccount). x.popped) told ∙ sym (append-nil a.popped)) tt same_ledger
-      same_counts late
+      (unended desk.asked desk.closed (capped (desk.late + 1)) desk.ledger desk.lost [] (λ c. c)
+      (ap (λ (x : PassAccount). x.ends) told)
+      (ap (λ (x : PassAccount). x.popped) told ∙ sym (append-nil a.popped)) same_ledger late
       (still_told (ap (λ (x : PassAccount). x.told_left) told))
-      (still_above desk.next_ticket desk.waiting (accepted desk w) b.floor b.asked one)
-      tt (pops_none desk (record desk { late = capped (desk.late + 1) }) a b
-      (ap (λ (x : PassAccount). x.popped_lost) told) refl refl))
+      (floor_kept (ap (λ (x : PassAccount). x.floor) told) (ap (λ (x : PassAccount). x.asked) told))
+      (pops_none desk desk a b (ap (λ (x : PassAccount). x.popped_lost) told) refl refl))
 
   -- ---- a span ends, and is given a ticket
 
@@ -471,19 +419,19 @@ module _ (desk : Desk) (w : WorkerAccount) (old new : List PassAccount) (a b : P
       → b ≡ record a { ends = a.ends ++ ends_of.accepted s ∷ [] } → Agrees desk' new w
   queued_agrees desk' s admits ticket is told =
       let ss : List SpanData = s ∷ [] in
+      let desk2 =
+      record desk {
+        next_ticket = desk.next_ticket + 1;
+        closed = desk.next_ticket + 1 == 2 ^ 64 - 1;
+        waiting = desk.waiting ++ ss;
+      } in
       let one : KeepsFloor (desk.next_ticket + 1) (desk.waiting ++ ss)
       (accepted desk w ++ ss) b.floor b.asked =
       rw (ap (λ (x : PassAccount). x.floor) told, ap (λ (x : PassAccount). x.asked) told)
       (floor_step desk.next_ticket (desk.next_ticket + 1) desk.waiting
       (accepted desk w) ss a.floor a.asked (omega arith) (omega arith, tt) floor_of) in
       subst (λ (d : Desk). Agrees d new w) (sym is)
-      (agrees_pass desk
-      (record desk {
-        next_ticket = desk.next_ticket + 1;
-        closed = desk.next_ticket + 1 == 2 ^ 64 - 1;
-        waiting = desk.waiting ++ ss;
-      })
-      w old new a b r k
+      (agrees_pass desk desk2 w old new a b r k
       (ends_of.accepted s ∷ []) ss []
       (record {
         news = one_news desk.next_ticket (ends_of.accepted s) ticket;
@@ -508,13 +456,7 @@ module _ (desk : Desk) (w : WorkerAccount) (old new : List PassAccount) (a b : P
       (ticket_late admits (ap (λ (x : PassAccount). x.late) told)
       (ap (λ (x : PassAccount). x.shutdowns) told))
       (still_told (ap (λ (x : PassAccount). x.told_left) told)) one
-      tt (pops_none desk
-      (record desk {
-        next_ticket = desk.next_ticket + 1;
-        closed = desk.next_ticket + 1 == 2 ^ 64 - 1;
-        waiting = desk.waiting ++ ss;
-      })
-      a b
+      tt (pops_none desk desk2 a b
       (ap (λ (x : PassAccount). x.popped_lost) told) refl refl))
 
   -- The accounts agree after a span is dropped since the queue is full, whose waiting spans have
@@ -531,6 +473,13 @@ module _ (desk : Desk) (w : WorkerAccount) (old new : List PassAccount) (a b : P
       }
       → b ≡ record a { ends = a.ends ++ ends_of.dropped d ∷ [] } → Agrees desk' new w
   full_agrees desk' d s named admits whole ticket floor is told =
+      let desk2 =
+      record desk {
+        next_ticket = desk.next_ticket + 1;
+        closed = desk.next_ticket + 1 == 2 ^ 64 - 1;
+        ledger = entry_in d ∷ desk.ledger;
+        dropped = with_drops queue_full 1 desk.dropped;
+      } in
       let one : KeepsFloor (desk.next_ticket + 1) (desk.waiting ++ [])
       (accepted desk w ++ []) b.floor b.asked =
       rw (ap (λ (x : PassAccount). x.floor) told, ap (λ (x : PassAccount). x.asked) told)
@@ -551,14 +500,7 @@ module _ (desk : Desk) (w : WorkerAccount) (old new : List PassAccount) (a b : P
       ap (with_drops queue_full 1) k.names.counted ∙ sym (counts-more queue_full had (s ∷ []))
       ∙ ap (λ (e : Entry). drop_counts (had ++ e ∷ [])) (sym named) in
       subst (λ (x : Desk). Agrees x new w) (sym is)
-      (agrees_pass desk
-      (record desk {
-        next_ticket = desk.next_ticket + 1;
-        closed = desk.next_ticket + 1 == 2 ^ 64 - 1;
-        ledger = entry_in d ∷ desk.ledger;
-        dropped = with_drops queue_full 1 desk.dropped;
-      })
-      w old new a b r k
+      (agrees_pass desk desk2 w old new a b r k
       (ends_of.dropped d ∷ []) [] []
       (record {
         news = one_news desk.next_ticket (ends_of.dropped d) ticket;
@@ -584,12 +526,5 @@ module _ (desk : Desk) (w : WorkerAccount) (old new : List PassAccount) (a b : P
       one_more (ticket_late admits (ap (λ (x : PassAccount). x.late) told)
       (ap (λ (x : PassAccount). x.shutdowns) told))
       (still_told (ap (λ (x : PassAccount). x.told_left) told)) one
-      (ap (λ (e : Entry). e.reason) named, tt) (pops_none desk
-      (record desk {
-        next_ticket = desk.next_ticket + 1;
-        closed = desk.next_ticket + 1 == 2 ^ 64 - 1;
-        ledger = entry_in d ∷ desk.ledger;
-        dropped = with_drops queue_full 1 desk.dropped;
-      })
-      a b
+      (ap (λ (e : Entry). e.reason) named, tt) (pops_none desk desk2 a b
       (ap (λ (x : PassAccount). x.popped_lost) told) refl refl))

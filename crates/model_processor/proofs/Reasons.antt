@@ -8,7 +8,7 @@ use Rattle.model_span.specs.Spans.{SpanData}
 use Rattle.model_span.specs.Dropped.{Reason, queue_full, encode_memory, too_large, Entry}
 use Rattle.model_span.specs.Dropped.{can_drop_batch, entry_of, is_lost}
 use Rattle.model_export.specs.Export.{LacksBody}
-use Rattle.model_retry.specs.Retries.{Fate, Outcome}
+use Rattle.model_desk.specs.Retries.{Fate, Outcome}
 use Rattle.model_desk.specs.Queue.{lost_names}
 use Rattle.model_processor.specs.Passes.{PassAccount, all_dropped, dropped_entries}
 use Rattle.model_processor.specs.Worker.{BatchEnd, settled, dropped, EndedBatch, OutBatch}

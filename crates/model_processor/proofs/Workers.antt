@@ -13,7 +13,7 @@ use Rattle.std.proofs.lemmas.Grind.{flat_map-append}
 use Rattle.account_book.proofs.Facts.{each_map}
 use Rattle.model_span.specs.Spans.{SpanData}
 use Rattle.model_span.specs.Dropped.{Entry, Reason, entry_of}
-use Rattle.model_retry.specs.Retries.{Outcome, Fate}
+use Rattle.model_desk.specs.Retries.{Outcome, Fate}
 use Rattle.model_desk.specs.Queue.{lost_names}
 use Rattle.model_desk.specs.Desks.{Desk, after_settled, drop_counts, fate_counts, handed_out}
 use Rattle.model_desk.specs.Desks.{out_size, with_drops, with_fate}
@@ -21,7 +21,7 @@ use Rattle.model_desk.proofs.Events.{counts-more, fates-more}
 use Rattle.model_processor.specs.Passes.{PassAccount, all_dropped, all_popped, all_popped_lost}
 use Rattle.model_processor.specs.PassClauses.{NamesDrops, NamesLosses}
 use Rattle.model_processor.proofs.PassLists.{range-more}
-use Rattle.model_processor.specs.Worker.{EndedBatch, OutBatch, WorkerAccount, entries_by}
+use Rattle.model_processor.specs.Worker.{BatchEnd, EndedBatch, OutBatch, WorkerAccount, entries_by}
 use Rattle.model_processor.specs.Worker.{fate_in, fates, handed_out_spans, handed_spans}
 use Rattle.model_processor.specs.Worker.{lost_entries_by, numbers, out_number, out_spans}
 use Rattle.model_processor.specs.Worker.{spans_if_settled, spans_with, taken_spans, worker_entries}
@@ -263,26 +263,24 @@ module _ (desk : Desk) (u : WorkerAccount) (passes : List PassAccount)
           ∙ sym (ap (λ (o : Option OutBatch). ended_numbers ++ out_number o) out)
           ∙ k.batches.numbered
 
+      -- what comes of the batches that ended, and then of this one
+      each_more : {X : Type 0} (f : BatchEnd → List SpanData → List X)
+          → flat_map (λ (x : EndedBatch). f x.ending x.spans) v.ended
+          ≡ flat_map (λ (x : EndedBatch). f x.ending x.spans) u.ended ++ f e.ending e.spans
+      each_more f =
+          ap (flat_map (λ (x : EndedBatch). f x.ending x.spans)) ended
+          ∙ flat_map-append (λ (x : EndedBatch). f x.ending x.spans) u.ended (e ∷ [])
+          ∙ ap (λ l. flat_map (λ (x : EndedBatch). f x.ending x.spans) u.ended ++ l)
+          (append-nil (f e.ending e.spans))
+
       handed_more : handed_spans v ≡ handed_spans u ++ spans_if_settled e.ending e.spans
-      handed_more =
-          ap (flat_map (λ (x : EndedBatch). spans_if_settled x.ending x.spans)) ended
-          ∙ flat_map-append (λ (x : EndedBatch). spans_if_settled x.ending x.spans) u.ended (e ∷ [])
-          ∙ ap (λ (l : List SpanData). handed_spans u ++ l)
-          (append-nil (spans_if_settled e.ending e.spans))
+      handed_more = each_more spans_if_settled
 
       entries_more : worker_entries v ≡ worker_entries u ++ entries_by e.ending e.spans
-      entries_more =
-          ap (flat_map (λ (x : EndedBatch). entries_by x.ending x.spans)) ended
-          ∙ flat_map-append (λ (x : EndedBatch). entries_by x.ending x.spans) u.ended (e ∷ [])
-          ∙ ap (λ (l : List Entry). worker_entries u ++ l)
-          (append-nil (entries_by e.ending e.spans))
+      entries_more = each_more entries_by
 
       losses_more : worker_losses v ≡ worker_losses u ++ lost_entries_by e.ending e.spans
-      losses_more =
-          ap (flat_map (λ (x : EndedBatch). lost_entries_by x.ending x.spans)) ended
-          ∙ flat_map-append (λ (x : EndedBatch). lost_entries_by x.ending x.spans) u.ended (e ∷ [])
-          ∙ ap (λ (l : List Entry). worker_losses u ++ l)
-          (append-nil (lost_entries_by e.ending e.spans))
+      losses_more = each_more lost_entries_by
 
       fates_more : fates v ≡ fates u ++ option_to_list (fate_in e.ending)
       fates_more =

@@ -1,22 +1,21 @@
 -- What the accounts of a batch processor say. (profile)
-use Rattle.std.specs.Prelude.{ℕ, Bool, true, false, List, [], ◌∷◌, ◌++◌, filter_map, Option}
-use Rattle.std.specs.Prelude.{Some, None}
-use Rattle.model_retry.specs.Retries.{Outcome, Fate}
+use Rattle.std.specs.Prelude.{ℕ, Bool, true, false, List, [], ◌∷◌, ◌++◌, Option, Some, None}
+use Rattle.model_desk.specs.Retries.{Outcome, Fate}
 use Rattle.model_span.specs.Spans.{SpanData}
 use Rattle.model_span.specs.Dropped.{Reason}
-use Rattle.model_processor.specs.Passes.{PassAccount, new_account}
+pub use Rattle.model_processor.specs.Holders.{Holder, processor, pass, worker, origin_or}
+pub use Rattle.model_processor.specs.Holders.{account_in, worker_in, pass_account, worker_account}
+pub use Rattle.model_processor.specs.Holders.{pass_accounts, worker_accounts, on_pass, on_worker}
 pub use Rattle.model_processor.specs.Passes.{after_flush, after_shutdown, after_flushed}
 pub use Rattle.model_processor.specs.Passes.{after_told_left}
 use Rattle.model_processor.specs.Worker as batches
-use Rattle.model_processor.specs.Worker.{WorkerAccount, OutBatch, EndedBatch, BatchEnd, new_worker}
+use Rattle.model_processor.specs.Worker.{WorkerAccount, OutBatch, EndedBatch, BatchEnd}
 pub use Rattle.model_processor.specs.Worker.{after_left}
 use Rattle.model_processor.specs.WorkerClauses.{Origin}
 
--- the processor's own account, that of a pass, or that of the worker
-pub data AnyAccount : Type 0 where
-  processor : Origin → AnyAccount
-  pass : PassAccount → AnyAccount
-  worker : Origin → WorkerAccount → AnyAccount
+-- what an account of a batch processor says
+abbrev pub AnyAccount : Type 0
+AnyAccount = Holder Origin
 
 abbrev pub new_origin : Origin
 new_origin = record {
@@ -26,42 +25,9 @@ new_origin = record {
   max_body = 0;
 }
 
+-- what an account says that the processor began with
 abbrev pub origin_in : AnyAccount → Origin
-origin_in (processor origin) = origin
-origin_in (pass account) = new_origin
-origin_in (worker origin account) = origin
-
-abbrev pub account_in : AnyAccount → PassAccount
-account_in (pass account) = account
-account_in _ = new_account
-
-abbrev pub worker_in : AnyAccount → WorkerAccount
-worker_in (worker origin account) = account
-worker_in _ = new_worker
-
-abbrev pub pass_account : AnyAccount → Option PassAccount
-pass_account (pass account) = Some account
-pass_account _ = None
-
-abbrev pub worker_account : AnyAccount → Option WorkerAccount
-worker_account (worker origin account) = Some account
-worker_account _ = None
-
--- the accounts of the passes, and those of the workers
-abbrev pub pass_accounts : List AnyAccount → List PassAccount
-pass_accounts holders = filter_map pass_account holders
-
-abbrev pub worker_accounts : List AnyAccount → List WorkerAccount
-worker_accounts holders = filter_map worker_account holders
-
--- what a pass's account learns, or the worker's, changes that account alone
-abbrev pub on_pass : (PassAccount → PassAccount) → AnyAccount → AnyAccount
-on_pass f (pass account) = pass (f account)
-on_pass f holder = holder
-
-abbrev pub on_worker : (WorkerAccount → WorkerAccount) → AnyAccount → AnyAccount
-on_worker f (worker origin account) = worker origin (f account)
-on_worker f holder = holder
+origin_in holder = origin_or new_origin holder
 
 -- ---- what the worker learns in a critical section
 

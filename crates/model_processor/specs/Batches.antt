@@ -10,8 +10,8 @@ use Rattle.model_message.specs.Canon.{canon}
 use Rattle.model_span.specs.Spans.{SpanData}
 use Rattle.model_span.specs.Dropped.{Reason}
 use Rattle.model_export.specs.Export.{LacksBody, groups, grouped_triples, request_message}
-use Rattle.model_retry.specs.Retries.{Outcome, Fate, abandoned, fate_of}
-use Rattle.model_retry.specs.Waits.{RetryConfig, next_after}
+use Rattle.model_desk.specs.Retries.{Outcome, Fate, abandoned, fate_of}
+use Rattle.model_desk.specs.Waits.{RetryConfig, next_after}
 use Rattle.model_desk.specs.Desks.{DeskConfig}
 use Rattle.model_processor.specs.Worker.{WorkerAccount, EndedBatch, BatchEnd, settled, dropped}
 use Rattle.model_processor.specs.Worker.{OutBatch}

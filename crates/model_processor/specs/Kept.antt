@@ -13,8 +13,8 @@ use Rattle.model_processor.specs.Worker.{WorkerAccount, OutBatch, taken_spans, h
 use Rattle.model_processor.specs.Worker.{handed_out_spans, fates, numbers, worker_losses}
 use Rattle.model_processor.specs.WorkerClauses.{Origin, AreFrom, DropsFoundItFull}
 use Rattle.model_processor.specs.WorkerClauses.{ToldOnlyWhereLeft, all_entries, tickets_of}
-use Rattle.model_processor.specs.AnyAccounts.{AnyAccount, processor, pass, worker, pass_accounts}
-use Rattle.model_processor.specs.AnyAccounts.{worker_accounts}
+pub use Rattle.model_processor.specs.Holders.{IsOf}
+use Rattle.model_processor.specs.AnyAccounts.{AnyAccount, pass_accounts, worker_accounts}
 
 -- what a desk shows of the batch that is out
 abbrev pub shown_out : Option OutBatch → Option desks.OutBatch
@@ -80,12 +80,6 @@ pub record Agrees (desk : Desk) (passes : List PassAccount) (account : WorkerAcc
   pub floors : KeepsFloors desk.next_ticket desk.waiting (accepted desk account) passes
   pub batches : Batches desk account
   pub told : ToldOnlyWhereLeft passes account
-
--- the account says what the processor began with
-abbrev pub IsOf : Origin → AnyAccount → Type 0
-IsOf origin (processor said) = said ≡ origin
-IsOf origin (pass account) = Unit {0}
-IsOf origin (worker said account) = said ≡ origin
 
 -- What the lock keeps of the accounts of a processor with this origin. A mark beside the desk says
 -- whether the worker has left.

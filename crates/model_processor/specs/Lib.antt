@@ -5,5 +5,6 @@ pub mod PassClauses
 pub mod Worker
 pub mod Batches
 pub mod WorkerClauses
+pub mod Holders
 pub mod AnyAccounts
 pub mod Kept

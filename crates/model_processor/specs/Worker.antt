@@ -5,7 +5,7 @@ use Rattle.std.specs.Prelude.{true, false}
 use Rattle.std.specs.List.{flat_map}
 use Rattle.model_span.specs.Spans.{SpanData}
 use Rattle.model_span.specs.Dropped.{Reason, Entry, entry_of}
-use Rattle.model_retry.specs.Retries.{Outcome, Fate}
+use Rattle.model_desk.specs.Retries.{Outcome, Fate}
 use Rattle.model_desk.specs.Queue.{lost_names}
 
 -- How a batch ended: it was handed to the exporter, with this body, in attempts with these

@@ -10,10 +10,10 @@ use Rattle.model_span.specs.Sampling.{is_sampled, is_recording}
 use Rattle.model_span.specs.Spans.{Call, unset, ok, set_status, end, is_end}
 use Rattle.model_span.specs.Starts.{StartedSpan}
 use Rattle.model_export.specs.Export.{groups, body_length}
-use Rattle.model_retry.specs.Retries.{Outcome, Next, again, give_up}
+use Rattle.model_desk.specs.Retries.{Outcome, Next, again, give_up}
 use Rattle.model_desk.specs.Queue.{last_spans}
 use Rattle.model_desk.specs.Desks.{DeskConfig, Desk, desk_of, is_due}
-use Rattle.model_retry.specs.Waits.{RetryConfig, next_after}
+use Rattle.model_desk.specs.Waits.{RetryConfig, next_after}
 use Rattle.model_run.specs.Steps.{Parent, Step, is_shutdown}
 use Rattle.model_run.specs.History.{Setup, parent_among, start_result}
 use Rattle.model_run.specs.Runs.{Ended, queued, late, not_sampled, already_ended, Answer, started}

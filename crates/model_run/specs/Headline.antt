@@ -5,7 +5,7 @@ use Rattle.std.specs.Prelude.{Option, Some, None}
 use Rattle.std.specs.List.{range_with_len}
 use Rattle.model_span.specs.Attributes.{distinct_of}
 use Rattle.model_span.specs.Spans.{SpanData}
-use Rattle.model_retry.specs.Retries.{Outcome}
+use Rattle.model_desk.specs.Retries.{Outcome}
 use Rattle.model_desk.specs.Queue.{last_batch, last_spans}
 use Rattle.law_desk.specs.Queues.{places}
 use Rattle.model_run.specs.History.{Setup}

@@ -8,7 +8,7 @@ use Rattle.model_span.specs.Dropped.{Reason, queue_full, encode_memory, too_larg
 use Rattle.model_span.specs.Dropped.{refused, bad_reply, given_up, left_handed}
 use Rattle.model_span.specs.Spans.{Call, SpanData, with_ticket}
 use Rattle.model_span.specs.Starts.{Ids, StartedSpan}
-use Rattle.model_retry.specs.Retries.{Outcome, Next, fate_of}
+use Rattle.model_desk.specs.Retries.{Outcome, Next, fate_of}
 use Rattle.model_desk.specs.Queue.{DeskEvent}
 use Rattle.model_desk.specs.Queue as desk
 use Rattle.model_run.specs.Steps.{Step, is_shutdown, take}

@@ -4,6 +4,6 @@ use Rattle.otlp_collector.specs.declared.failure.Failure.{Failure}
 use Rattle.otlp_collector.specs.declared.failure.Failure.TheVariants as failures
 
 abbrev pub status_of : Failure → ℕ
-status_of failures.Listen = 1
+status_of (failures.Listen port cause) = 1
 status_of failures.Write = 1
 status_of failures.OutOfMemory = 3

@@ -3,15 +3,15 @@
 ghost use Rattle.std.specs.Prelude.{◌≡◌, ◌⊎◌};
 ghost use Rattle.otlp_collector.specs.Failures.{status_of};
 
-use std::io::Write;
+use std::io::{ErrorKind, Write};
 use thiserror::Error;
 
 /// Why the program ends before all connections are served.
 #[derive(Debug, Clone, Copy, PartialEq, Eq, Error)]
 pub enum Failure {
-    /// The port can't be listened at.
-    #[error("cannot listen")]
-    Listen,
+    /// This port of 127.0.0.1 can't be listened at, for this cause.
+    #[error("cannot listen on 127.0.0.1:{0}: {1}; choose another --port")]
+    Listen(u16, ErrorKind),
     /// A line can't be written.
     #[error("cannot write")]
     Write,
@@ -26,7 +26,7 @@ impl Failure {
         ensures { result ≡ status_of self }
     {
         match self {
-            Failure::Listen | Failure::Write => 1,
+            Failure::Listen(..) | Failure::Write => 1,
             Failure::OutOfMemory => 3,
         }
     }

@@ -56,7 +56,7 @@ pub fn run_collector<R: Net + Clock, W: Write, F: Write>(
 /// refused, is read for 2 seconds or 16 MiB at most, so that the reply arrives. (profile)
 ///
 /// The answer is the program's status: 0, or 1 where the port can't be listened at, which is
-/// reported as `cannot listen` on `faults`, or a write failed, which is reported as `cannot write`;
+/// reported with the cause on `faults`, or a write failed, which is reported as `cannot write`;
 /// 3 where memory to print was refused, reported as `out of memory`. Lines may have gone out then.
 /// Where the fault itself can't be reported it is 1.
 pub fn collect<R: Net + Clock, W: Write, F: Write>(
@@ -87,8 +87,9 @@ fn listen_and_serve<R: Net + Clock, W: Write>(
     ensures { OnOk result (PrintsAll args.port args.count args.max_body
         (W.contents output.old) (W.contents output.new)) }
 {
-    let Ok(listener) = TcpListener::bind(rt, (Ipv4Addr::LOCALHOST, args.port)) else {
-        return Err(Failure::Listen);
+    let listener = match TcpListener::bind(rt, (Ipv4Addr::LOCALHOST, args.port)) {
+        Ok(listener) => listener,
+        Err(cause) => return Err(Failure::Listen(args.port, cause.kind())),
     };
     let port = port_of(&listener, args.port)?;
     print_port(alloc, port, output)?;
@@ -121,7 +122,7 @@ fn port_of<L: OpenListener>(listener: &L, port: u16) -> Result<u16, Failure>
     }
     match listener.local_addr() {
         Ok(address) => Ok(address.port()),
-        Err(_) => Err(Failure::Listen),
+        Err(cause) => Err(Failure::Listen(port, cause.kind())),
     }
 }
 

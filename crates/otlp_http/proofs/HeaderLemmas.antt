@@ -2,7 +2,6 @@
 use Rattle.std.proofs.Common.{◌≡◌, ℕ, ◌+◌, ◌≤◌, List, [], ◌∷◌, ◌++◌, length, true, false, IsTrue}
 use Rattle.std.proofs.Common.{refl, sym, subst, ap, ◌∙◌, arith, length-append, append-nil}
 use Rattle.std.specs.Prelude.{Bool, not, ◌&&◌, ◌||◌, nat_lt, Option, Some, None, if◌then◌else◌}
-use Rattle.std.specs.Prelude.{codes}
 use Rattle.std.specs.Prelude.{String, string_bytes}
 use Rattle.std.specs.List.{list_any}
 use Rattle.std.proofs.lemmas.Bool.{ltb-false}

@@ -1,5 +1,5 @@
 -- What comes where the head of a reply is due (RFC 9112, sections 2 to 5, as `httparse` has them).
-use Rattle.std.specs.Prelude.{◌≡◌, ℕ, ◌<◌, ◌≤◌, List, ◌++◌, length, map, Option, All}
+use Rattle.std.specs.Prelude.{ℕ, ◌<◌, ◌≤◌, List, ◌++◌, length, map, Option, All}
 use Rattle.std.specs.List.{flat_map}
 use Rattle.std.specs.Io.KnownBytes.{Consumes}
 use Rattle.httparse.specs.Grammar.{ResponseHead, IsResponseHead, print_response, status_code}
@@ -8,18 +8,16 @@ use Rattle.httparse.specs.Spans.{ResponseExceeds, name_and_value}
 use Rattle.http_wire.specs.declared.fault.HttpFault.{HttpFault}
 use Rattle.http_wire.specs.declared.limits.HeadLimits.{HeadLimits}
 use Rattle.http_wire.specs.Fields.{NameAndValue}
-use Rattle.http_wire.specs.Heads.{LacksSuchHead}
+use Rattle.http_wire.specs.Heads.{IsSuchHead, LacksSuchHead}
 
 -- the fields of a head, in their order
 abbrev pub fields_of : ResponseHead → List NameAndValue
 fields_of head = map name_and_value head.fields
 
 -- the text is that head, within the limits of bytes and of fields
-pub record IsHeadText (limits : HeadLimits) (text : List ℕ) (head : ResponseHead) : Type 0 where
-  pub valid : IsResponseHead head
-  pub whole : text ≡ print_response head
-  pub bytes : length text ≤ limits.head
-  pub fields : length head.fields ≤ limits.fields
+abbrev pub IsHeadText : HeadLimits → List ℕ → ResponseHead → Type 0
+IsHeadText limits text head =
+    IsSuchHead IsResponseHead print_response (λ head. head.fields) limits text head
 
 -- no front of the text is a head, and bytes can follow that make it one
 abbrev pub IsUnfinished : List ℕ → Type 0

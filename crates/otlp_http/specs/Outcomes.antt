@@ -7,7 +7,7 @@ use Rattle.model_message.specs.Reading.{Reading, Fault}
 use Rattle.model_message.specs.Tables
 use Rattle.model_message.specs.Tables.{Message}
 use Rattle.model_message.specs.Messages.{meaning}
-use Rattle.model_retry.specs.Retries.{Outcome, delivered, later, no_reply, bad}
+use Rattle.model_desk.specs.Retries.{Outcome, delivered, later, no_reply, bad}
 use Rattle.retry_core.specs.Retries.{retry_after_view}
 use Rattle.otlp_wire.specs.Response.{rejected_in}
 use Rattle.http_wire.specs.declared.fault.HttpFault.{HttpFault}

@@ -1,6 +1,6 @@
 -- What a parse of a head's text answers, and what is kept of it.
-use Rattle.std.specs.Prelude.{◌≡◌, ℕ, List, length, All, Option}
-use Rattle.httparse.specs.Grammar.{ResponseHead, print_response, status_code}
+use Rattle.std.specs.Prelude.{◌≡◌, ℕ, List, All, Option}
+use Rattle.httparse.specs.Grammar.{ResponseHead, IsResponseHead, print_response, status_code}
 use Rattle.httparse.specs.Spans.{IsResponseAt, IsResponseWithin}
 use Rattle.httparse.specs.declared.spans.HeaderSpan.{HeaderSpan}
 use Rattle.httparse.specs.declared.spans.ResponseSpans.{ResponseSpans}
@@ -8,25 +8,15 @@ use Rattle.http_header.specs.FieldValue.{FieldValue}
 use Rattle.http_header.specs.HeaderMap.{Entries}
 use Rattle.http_wire.specs.declared.limits.HeadLimits.{HeadLimits}
 use Rattle.http_wire.specs.Fields.{IsTaken, KeepsFields}
+use Rattle.http_wire.specs.Heads.{CoversSuchHead}
 use Rattle.otlp_http.specs.Heads.{fields_of, ComesAfter, IsHeadText, IsInterimStatus}
 
 -- the spans cover the parts of that head, which is the text
 abbrev pub CoversHead : HeadLimits → List ℕ → List HeaderSpan → ResponseSpans → ResponseHead
     → Type 0
 CoversHead limits text spans found head =
-    IsHeadText limits text head × IsResponseAt text spans found head
-    × IsResponseWithin text spans found
-
--- the spans cover a head, which is the text
-abbrev pub FindsHead : HeadLimits → List ℕ → List HeaderSpan → ResponseSpans → Type 0
-FindsHead limits text spans found =
-    (head : ResponseHead) × CoversHead limits text spans found head
-
--- the spans cover the parts of a head at the front of the text, with room for this number of fields
-abbrev pub FindsFront : List ℕ → ℕ → List HeaderSpan → ResponseSpans → Type 0
-FindsFront text room spans found =
-    (head : ResponseHead) × IsResponseAt text spans found head
-    × IsResponseWithin text spans found × (length spans ≡ room)
+    CoversSuchHead IsResponseHead print_response (λ head. head.fields)
+    IsResponseAt IsResponseWithin limits text spans found head
 
 -- a head that isn't interim came after the interim ones
 pub record HasFinalHead (limits : HeadLimits) (old new : Option (List ℕ)) (text : List ℕ)

@@ -9,21 +9,26 @@ ghost use Rattle.otlp_http.specs.Replies.{HasNoReply};
 
 use http_wire::{FaultRead, HeadLimits, HttpFault, ParseHead, read_head};
 use httparse::spans::{HeaderSpan, ResponseSpans, parse_response};
-use httparse::{Error, Status};
 use std::alloc::Allocator;
 
 /// The heads of replies, as `httparse` reads them.
 struct ReplyHeads;
 
 impl ParseHead for ReplyHeads {
-    ghost use Rattle.httparse.specs.Grammar.{HasNoResponse, MayBecomeResponse, NeverHasResponse};
-    ghost use Rattle.httparse.specs.Spans.{ResponseExceeds};
-    ghost use Rattle.otlp_http.specs.Parses.{FindsFront, FindsHead};
-    ghost use Rattle.otlp_http.specs.HeadLaws as heads;
+    ghost use Rattle.httparse.specs.Grammar.{IsResponseHead, MayBecomeResponse, NeverHasResponse};
+    ghost use Rattle.httparse.specs.Grammar.{print_response, ResponseHead};
+    ghost use Rattle.httparse.specs.Spans.{IsResponseAt, IsResponseWithin, ResponseExceeds};
+    ghost use Rattle.otlp_http.specs.HeadLaws as laws;
 
     type Spans = ResponseSpans;
 
-    ghost has_none = { HasNoResponse };
+    ghost Head = { ResponseHead };
+
+    ghost valid = { IsResponseHead };
+
+    ghost printed = { print_response };
+
+    ghost fields_in = { λ head. head.fields };
 
     ghost may_become = { MayBecomeResponse };
 
@@ -31,25 +36,18 @@ impl ParseHead for ReplyHeads {
 
     ghost exceeds = { ResponseExceeds };
 
-    ghost finds_front = { FindsFront };
+    ghost covers = { IsResponseAt };
 
-    ghost finds = { FindsHead };
+    ghost is_within = { IsResponseWithin };
 
-    ghost none_of_nothing = { heads.none_of_nothing };
+    ghost due = { laws.head_due };
 
-    ghost none_yet = { heads.none_yet };
+    ghost begins = { laws.begins };
 
-    ghost none_found = { heads.none_found };
+    ghost fits = { laws.fits };
 
-    ghost is_whole = { heads.head_read };
-
-    fn parse(text: &[u8], spans: &mut [HeaderSpan]) -> Result<Option<ResponseSpans>, HttpFault> {
-        match parse_response(text, spans) {
-            Ok(Status::Complete(head)) => Ok(Some(head)),
-            Ok(Status::Partial) => Ok(None),
-            Err(Error::TooManyHeaders) => Err(HttpFault::TooLarge),
-            Err(_) => Err(HttpFault::BadHead),
-        }
+    fn parse(text: &[u8], spans: &mut [HeaderSpan]) -> httparse::Result<ResponseSpans> {
+        parse_response(text, spans)
     }
 }
 

@@ -4,3 +4,4 @@ pub mod ValueSteps
 pub mod ValueViews
 pub mod PairValues
 pub mod TripleSteps
+pub mod TableSteps

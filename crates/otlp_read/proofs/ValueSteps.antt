@@ -8,7 +8,7 @@ use Rattle.std.specs.List.{last_or}
 use Rattle.std.proofs.lemmas.List.{map-append, take_more, take-append-drop}
 use Rattle.model_message.specs.AnyValue.{AnyValue, as_values, as_pairs}
 use Rattle.model_message.specs.Reading.{Reading, Reads, ◌>>=◌, done}
-use Rattle.model_message.specs.Wire.{Field, Payload, varint, i64, len}
+use Rattle.model_message.specs.Wire.{Field, Payload, varint, i64, len, put, row}
 use Rattle.model_message.specs.Tables.{Shape, any, message, repeated, Table, end, ◌⦂◌◂◌, ◌▸◌}
 use Rattle.model_message.specs.Tables.{ValueOf, array_value, key_value_list}
 use Rattle.model_message.specs.Messages.{PayloadReading, payloads, joined_rows, read, read_table}
@@ -16,12 +16,15 @@ use Rattle.model_message.specs.Messages.{value_of, last_run, last_bytes, last_nu
 use Rattle.model_message.specs.Messages.{bytes_in, utf8}
 use Rattle.otlp_wire.specs.declared.fault.ReadFault.{ReadFault}
 use Rattle.otlp_wire.specs.Faults.{NamesOne}
-use Rattle.otlp_wire.specs.Gathering.{IsKept, IsGathered, part_faults}
+use Rattle.otlp_wire.specs.Gathering.{IsKept, IsGathered, Gathered, GathersRow, part_faults}
 use Rattle.otlp_read.specs.Members.{Begins, Runs, parts_view}
 use Rattle.otlp_wire.proofs.LastPayloads.{last_or-push}
 use Rattle.otlp_read.proofs.MemberSteps.{longer-run}
 use Rattle.otlp_wire.proofs.Named.{names-within, within-first}
+use Rattle.otlp_wire.proofs.FieldsRead.{FieldsRead}
 use Rattle.otlp_wire.proofs.GatherSteps.{repeated-skips, repeated-more, repeated-fails, part-names}
+use Rattle.otlp_wire.proofs.GatherSteps.{After, field-fails, kept-part}
+use Rattle.otlp_read.proofs.TableSteps.{row-more}
 
 -- ---- the member that counts
 
@@ -127,13 +130,13 @@ any-reads values ps = refl
 
 module _ (values : PayloadReading AnyValue) (s : Shape) where
   -- A field that is not the repeated one leaves the list as it is.
-  pub list-skips : (xs : List (ValueOf s)) (f : Field) → payloads 1 (repeated s) (f ∷ []) ≡ []
+  list-skips : (xs : List (ValueOf s)) (f : Field) → payloads 1 (repeated s) (f ∷ []) ≡ []
       → (fields : List Field) → IsGathered values (List_of s) (xs ▸ tt) fields
       → IsGathered values (List_of s) (xs ▸ tt) (fields ++ f ∷ [])
   list-skips xs f e fields h = (repeated-skips values 1 s xs fields f e h.0, tt)
 
   -- A payload of the repeated field that is read without a fault adds its value to the list.
-  pub list-more : (xs ys : List (ValueOf s)) (x : ValueOf s) (f : Field) (p : Payload)
+  list-more : (xs ys : List (ValueOf s)) (x : ValueOf s) (f : Field) (p : Payload)
       → payloads 1 (repeated s) (f ∷ []) ≡ p ∷ [] → Reads (read values s (p ∷ [])) x
       → ys ≡ xs ++ x ∷ [] →
       (fields : List Field) → IsGathered values (List_of s) (xs ▸ tt) fields
@@ -143,7 +146,7 @@ module _ (values : PayloadReading AnyValue) (s : Shape) where
       (repeated-more values 1 s xs x fields f p e k h.0, tt)
 
   -- A fault of one payload of the repeated field is a fault of the message.
-  pub list-fails : (f : Field) (p : Payload) → payloads 1 (repeated s) (f ∷ []) ≡ p ∷ []
+  list-fails : (f : Field) (p : Payload) → payloads 1 (repeated s) (f ∷ []) ≡ p ∷ []
       → (fault : ReadFault) → NamesOne (read values s (p ∷ [])).faults fault →
       (before after : List Field)
       → NamesOne (read_table values (List_of s) (before ++ f ∷ after)).faults fault
@@ -172,10 +175,44 @@ module _ (values : PayloadReading AnyValue) (s : Shape) where
       let none : r.faults ++ ([] ++ []) ≡ [] = append-nil r.faults ∙ h.1.0.0 in
       (ap (λ l. l ++ (r.faults ++ ([] ++ []))) h.0 ∙ none, ap (λ l. l ▸ tt) h.1.0.1)
 
+  -- The values of a list were read of some fields of a part, after those gathered before the part.
+  abbrev pub ListRead : (old xs : List (ValueOf s)) → List ℕ → Reading (List Field) → Type 0
+  ListRead old xs content left =
+      FieldsRead (After (IsGathered values (List_of s)) (old ▸ tt) (xs ▸ tt)) (row content) left
+
+  -- A field that is not the repeated one leaves the values that were read as they are.
+  pub read-skips : (old xs : List (ValueOf s)) (content : List ℕ) (left new : Reading (List Field))
+      (f : Field)
+      → ListRead old xs content left → left ≡ put f new → payloads 1 (repeated s) (f ∷ []) ≡ []
+      → ListRead old xs content new
+  read-skips old xs content left new f h next e =
+      row-more (IsGathered values (List_of s)) (old ▸ tt) (xs ▸ tt) (xs ▸ tt) (row content) left new
+      f h next (list-skips xs f e)
+
+  -- A payload of the repeated field adds its value to those that were read.
+  pub read-adds : (old xs ys : List (ValueOf s)) (x : ValueOf s) (content : List ℕ)
+      (left new : Reading (List Field)) (f : Field) (p : Payload)
+      → ListRead old xs content left → left ≡ put f new
+      → payloads 1 (repeated s) (f ∷ []) ≡ p ∷ [] → Reads (read values s (p ∷ [])) x
+      → ys ≡ xs ++ x ∷ [] → ListRead old ys content new
+  read-adds old xs ys x content left new f p h next e k same =
+      row-more (IsGathered values (List_of s)) (old ▸ tt) (xs ▸ tt) (ys ▸ tt) (row content) left new
+      f h next (list-more xs ys x f p e k same)
+
+  -- A fault of one payload of the repeated field is a fault of the part.
+  pub read-fails : (old xs : List (ValueOf s)) (content : List ℕ)
+      (left new : Reading (List Field)) (f : Field) (p : Payload)
+      → ListRead old xs content left → left ≡ put f new
+      → payloads 1 (repeated s) (f ∷ []) ≡ p ∷ [] → (fault : ReadFault)
+      → NamesOne (read values s (p ∷ [])).faults fault →
+      (before after : List Field)
+      → NamesOne (part_faults values (List_of s) before content after) fault
+  read-fails old xs content left new f p h next e fault k =
+      field-fails values (List_of s) _ content left new f h next fault (list-fails f p e fault k)
+
 -- ---- the parts of a message
 
--- The parts through one more index are those before it and then the part there.
-pub parts-through : (parts : List (Bor (List ℕ))) (i : ℕ) (d : Bor (List ℕ)) → i < length parts
+parts-through : (parts : List (Bor (List ℕ))) (i : ℕ) (d : Bor (List ℕ)) → i < length parts
     → parts_view (take (i + 1) parts) ≡ parts_view (take i parts) ++ len (get_or parts i d).now ∷ []
 parts-through parts i d l =
     ap parts_view (take_more parts i d l)
@@ -188,6 +225,16 @@ parts-split parts i d l =
     ap parts_view
     (sym (take-append-drop i parts) ∙ ap (λ b. take i parts ++ b) (drop-cons parts i d l))
     ∙ map-append (λ b. len b.now) (take i parts) (get_or parts i d ∷ drop (suc i) parts)
+
+-- What is kept of the parts before an index takes in the fields of the part there.
+pub part-added : (values : PayloadReading AnyValue) (t : Table) (parts : List (Bor (List ℕ)))
+    (i : ℕ) (d : Bor (List ℕ)) → i < length parts → (x y : Gathered t)
+    → GathersRow values t x y (get_or parts i d).now → (row (get_or parts i d).now).faults ≡ []
+    → IsKept values (message t) x (parts_view (take i parts))
+    → IsKept values (message t) y (parts_view (take (i + 1) parts))
+part-added values t parts i d l x y step good h =
+    subst (IsKept values (message t) y) (sym (parts-through parts i d l))
+    (kept-part values t x y (get_or parts i d).now step good (parts_view (take i parts)) h)
 
 -- A fault of one part of a message is a fault of the message.
 pub part-fails : (values : PayloadReading AnyValue) (t : Table) (parts : List (Bor (List ℕ)))

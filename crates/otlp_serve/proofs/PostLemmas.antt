@@ -8,7 +8,7 @@ use Rattle.std.proofs.lemmas.Bool.Decides.{nat_tests}
 use Rattle.std.proofs.lemmas.List.Elements.{All-weaker}
 use Rattle.std.proofs.lemmas.Str.{IsUtf8-from_ascii}
 use Rattle.std.proofs.lemmas.Str.Ascii.{IsAscii-from_all}
-use Rattle.httparse.specs.Grammar.{is_token_byte, IsToken, print_request}
+use Rattle.httparse.specs.Grammar.{RequestHead, is_token_byte, IsToken, print_request}
 use Rattle.httparse.specs.Spans.{span_bytes}
 use Rattle.httparse.specs.declared.spans.HeaderSpan.{HeaderSpan}
 use Rattle.httparse.specs.declared.spans.RequestSpans.{RequestSpans}
@@ -16,7 +16,7 @@ use Rattle.http_wire.specs.declared.limits.HeadLimits.{HeadLimits}
 use Rattle.http_wire.specs.declared.fault.HttpFault.{HttpFault}
 use Rattle.http_wire.specs.Bodies.{Framing, request_framing, IsBody}
 use Rattle.http_wire.specs.Devices.{HasFailed}
-use Rattle.otlp_serve.specs.Parses.{FindsRequest, HasKeptRequest}
+use Rattle.otlp_serve.specs.Parses.{CoversRequest, HasKeptRequest}
 use Rattle.otlp_serve.specs.Posts.{HasNoPostBody}
 use Rattle.otlp_serve.specs.RequestHeads.{request_fields}
 
@@ -32,10 +32,10 @@ token_text word token =
 
 -- The method of a request is UTF-8.
 pub method_text : (limits : HeadLimits) (text : List ℕ) (spans : List HeaderSpan)
-    (found : RequestSpans)
-    → FindsRequest limits text spans found → IsUtf8 (span_bytes text found.method)
-method_text limits text spans found finds =
-    subst IsUtf8 (sym finds.1.1.method) (token_text finds.0.method finds.1.0.valid.method)
+    (found : RequestSpans) (head : RequestHead)
+    → CoversRequest limits text spans found head → IsUtf8 (span_bytes text found.method)
+method_text limits text spans found head covers =
+    subst IsUtf8 (sym covers.1.method) (token_text head.method covers.0.valid.method)
 
 -- Where a head was kept and its body could not be read, no request came, for that fault.
 pub no_body : (limits : HeadLimits) (old mid new : Option (List ℕ)) (method target : List ℕ)

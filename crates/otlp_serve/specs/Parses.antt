@@ -1,7 +1,7 @@
 -- What a parse of a request's head answers, and what is kept of it.
-use Rattle.std.specs.Prelude.{◌≡◌, ℕ, List, length, All, Option}
+use Rattle.std.specs.Prelude.{◌≡◌, ℕ, List, All, Option}
 use Rattle.std.specs.Io.KnownBytes.{Consumes}
-use Rattle.httparse.specs.Grammar.{RequestHead, print_request}
+use Rattle.httparse.specs.Grammar.{RequestHead, IsRequestHead, print_request}
 use Rattle.httparse.specs.Spans.{IsRequestAt, IsRequestWithin}
 use Rattle.httparse.specs.declared.spans.HeaderSpan.{HeaderSpan}
 use Rattle.httparse.specs.declared.spans.RequestSpans.{RequestSpans}
@@ -9,25 +9,15 @@ use Rattle.http_header.specs.FieldValue.{FieldValue}
 use Rattle.http_header.specs.HeaderMap.{Entries}
 use Rattle.http_wire.specs.declared.limits.HeadLimits.{HeadLimits}
 use Rattle.http_wire.specs.Fields.{IsTaken, KeepsFields}
+use Rattle.http_wire.specs.Heads.{CoversSuchHead}
 use Rattle.otlp_serve.specs.RequestHeads.{request_fields, IsRequestText}
 
 -- the spans cover the parts of that head, which is the text
 abbrev pub CoversRequest : HeadLimits → List ℕ → List HeaderSpan → RequestSpans → RequestHead
     → Type 0
 CoversRequest limits text spans found head =
-    IsRequestText limits text head × IsRequestAt text spans found head
-    × IsRequestWithin text spans found
-
--- the spans cover a head, which is the text
-abbrev pub FindsRequest : HeadLimits → List ℕ → List HeaderSpan → RequestSpans → Type 0
-FindsRequest limits text spans found =
-    (head : RequestHead) × CoversRequest limits text spans found head
-
--- the spans cover the parts of a head at the front of the text, with room for this number of fields
-abbrev pub FindsFront : List ℕ → ℕ → List HeaderSpan → RequestSpans → Type 0
-FindsFront text room spans found =
-    (head : RequestHead) × IsRequestAt text spans found head
-    × IsRequestWithin text spans found × (length spans ≡ room)
+    CoversSuchHead IsRequestHead print_request (λ head. head.fields)
+    IsRequestAt IsRequestWithin limits text spans found head
 
 -- a head came, and its parts are kept
 pub record HasKeptRequest (limits : HeadLimits) (old new : Option (List ℕ))

@@ -6,22 +6,12 @@ ghost use Rattle.http_header.specs.HeaderMap.{get_all};
 ghost use Rattle.httparse.specs.Grammar.{is_ows};
 ghost use Rattle.otlp_serve.specs.Answers as model;
 ghost use Rattle.otlp_serve.specs.Answers.{is_for_traces, is_plain, is_protobuf, is_same_word};
-ghost use Rattle.otlp_serve.specs.Answers.{plain_reply, refusal_of, reply_by, without_end_blanks};
+ghost use Rattle.otlp_serve.specs.Answers.{refusal_of, reply_by, without_end_blanks};
 
 use crate::reply::PostReply;
 use crate::status::ReplyStatus;
 use http_header::{HeaderMap, HeaderValue, ValueIter};
 use http_wire::HttpFault;
-
-/// A reply that asks for no wait.
-pub(crate) fn plain_reply(status: ReplyStatus) -> PostReply
-    ensures { result ≡ plain_reply status }
-{
-    PostReply {
-        status,
-        retry_after: None,
-    }
-}
 
 /// What a fault is answered, where `large` says that too much came.
 pub(crate) fn reply_by(large: ReplyStatus, fault: HttpFault) -> Option<PostReply>
@@ -33,9 +23,9 @@ pub(crate) fn reply_by(large: ReplyStatus, fault: HttpFault) -> Option<PostReply
             status: ReplyStatus::ServiceUnavailable,
             retry_after: Some(1),
         }),
-        HttpFault::TooLarge => Some(plain_reply(large)),
+        HttpFault::TooLarge => Some(PostReply::of(large)),
         HttpFault::BadHead | HttpFault::BadLength | HttpFault::BadChunk => {
-            Some(plain_reply(ReplyStatus::BadRequest))
+            Some(PostReply::of(ReplyStatus::BadRequest))
         }
     }
 }
@@ -126,13 +116,13 @@ pub fn refusal_of(method: &str, target: &[u8], fields: &HeaderMap) -> Option<Pos
     }) }
 {
     if !is_for_traces(target) {
-        return Some(plain_reply(ReplyStatus::NotFound));
+        return Some(PostReply::of(ReplyStatus::NotFound));
     }
     if method != "POST" {
-        return Some(plain_reply(ReplyStatus::MethodNotAllowed));
+        return Some(PostReply::of(ReplyStatus::MethodNotAllowed));
     }
     if !(is_protobuf(fields) && is_plain(fields)) {
-        return Some(plain_reply(ReplyStatus::UnsupportedMediaType));
+        return Some(PostReply::of(ReplyStatus::UnsupportedMediaType));
     }
     None
 }

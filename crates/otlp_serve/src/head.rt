@@ -1,21 +1,26 @@
 //! Heads of requests.
 
-use http_wire::{HttpFault, ParseHead};
+use http_wire::ParseHead;
 use httparse::spans::{HeaderSpan, RequestSpans, parse_request};
-use httparse::{Error, Status};
 
 /// The heads of requests, as `httparse` reads them.
 pub(crate) struct RequestHeads;
 
 impl ParseHead for RequestHeads {
-    ghost use Rattle.httparse.specs.Grammar.{HasNoRequest, MayBecomeRequest, NeverHasRequest};
-    ghost use Rattle.httparse.specs.Spans.{RequestExceeds};
-    ghost use Rattle.otlp_serve.specs.Parses.{FindsFront, FindsRequest};
-    ghost use Rattle.otlp_serve.specs.HeadLaws as heads;
+    ghost use Rattle.httparse.specs.Grammar.{IsRequestHead, MayBecomeRequest, NeverHasRequest};
+    ghost use Rattle.httparse.specs.Grammar.{print_request, RequestHead};
+    ghost use Rattle.httparse.specs.Spans.{IsRequestAt, IsRequestWithin, RequestExceeds};
+    ghost use Rattle.otlp_serve.specs.HeadLaws as laws;
 
     type Spans = RequestSpans;
 
-    ghost has_none = { HasNoRequest };
+    ghost Head = { RequestHead };
+
+    ghost valid = { IsRequestHead };
+
+    ghost printed = { print_request };
+
+    ghost fields_in = { λ head. head.fields };
 
     ghost may_become = { MayBecomeRequest };
 
@@ -23,24 +28,17 @@ impl ParseHead for RequestHeads {
 
     ghost exceeds = { RequestExceeds };
 
-    ghost finds_front = { FindsFront };
+    ghost covers = { IsRequestAt };
 
-    ghost finds = { FindsRequest };
+    ghost is_within = { IsRequestWithin };
 
-    ghost none_of_nothing = { heads.none_of_nothing };
+    ghost due = { laws.head_due };
 
-    ghost none_yet = { heads.none_yet };
+    ghost begins = { laws.begins };
 
-    ghost none_found = { heads.none_found };
+    ghost fits = { laws.fits };
 
-    ghost is_whole = { heads.head_read };
-
-    fn parse(text: &[u8], spans: &mut [HeaderSpan]) -> Result<Option<RequestSpans>, HttpFault> {
-        match parse_request(text, spans) {
-            Ok(Status::Complete(head)) => Ok(Some(head)),
-            Ok(Status::Partial) => Ok(None),
-            Err(Error::TooManyHeaders) => Err(HttpFault::TooLarge),
-            Err(_) => Err(HttpFault::BadHead),
-        }
+    fn parse(text: &[u8], spans: &mut [HeaderSpan]) -> httparse::Result<RequestSpans> {
+        parse_request(text, spans)
     }
 }

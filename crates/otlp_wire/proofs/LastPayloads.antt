@@ -4,7 +4,7 @@ use Rattle.std.proofs.Common.{append-nil}
 use Rattle.std.specs.Borrow.{Bor}
 use Rattle.std.specs.Option.{option_map, option_to_list, unwrap_or}
 use Rattle.std.specs.List.{last_or}
-use Rattle.model_message.specs.Wire.{Field, Payload, varint, i64, i32, len}
+use Rattle.model_message.specs.Wire.{Field, Payload, varint, len}
 use Rattle.model_message.specs.Tables.{Shape, text, int64}
 use Rattle.model_message.specs.Messages.{payloads, number_in, bytes_in, last_number, last_bytes}
 use Rattle.otlp_wire.proofs.OnePayload.{payloads-append}
@@ -39,12 +39,12 @@ pub last_or-push : (o : Option Payload) (ps : List Payload) (p : Payload)
 last_or-push o [] p = refl
 last_or-push o (q ∷ ps) p = last_or-push (Some q) ps p
 
-last-number : (ps : List Payload) (found : Option ℕ)
-    → last_number (ps ++ option_to_list (option_map varint found))
-    ≡ unwrap_or found (last_number ps)
-last-number ps None = ap last_number (append-nil ps)
-last-number ps (Some n) =
-    ap (λ o. number_in (unwrap_or o (varint 0))) (last_or-push None ps (varint n))
+last-number : (make : ℕ → Payload) → ((v : ℕ) → number_in (make v) ≡ v) → (ps : List Payload)
+    (found : Option ℕ)
+    → last_number (ps ++ option_to_list (option_map make found)) ≡ unwrap_or found (last_number ps)
+last-number make is ps None = ap last_number (append-nil ps)
+last-number make is ps (Some v) =
+    ap (λ o. number_in (unwrap_or o (varint 0))) (last_or-push None ps (make v)) ∙ is v
 
 last-bytes : (ps : List Payload) (found : Option (Bor (List ℕ))) (old : Bor (List ℕ))
     → old.now ≡ last_bytes ps →
@@ -64,52 +64,18 @@ bytes-more n s fields f found old e h =
     sym (ap last_bytes (payloads-append n s fields (f ∷ []) ∙ ap (λ l. payloads n s fields ++ l) e)
     ∙ last-bytes (payloads n s fields) found old h)
 
--- The last varint of a field of the table is right after one more field, found or not.
-pub number-more : (n : ℕ) (s : Shape) (fields : List Field) (f : Field) (found : Option ℕ) (old : ℕ)
-    → payloads n s (f ∷ []) ≡ option_to_list (option_map varint found) →
+-- The last number of a field of the table is right after one more field, found or not; each such
+-- payload holds its number.
+pub number-more : (make : ℕ → Payload) → ((v : ℕ) → number_in (make v) ≡ v) → (n : ℕ) (s : Shape)
+    (fields : List Field) (f : Field) (found : Option ℕ) (old : ℕ)
+    → payloads n s (f ∷ []) ≡ option_to_list (option_map make found) →
     old ≡ last_number (payloads n s fields)
     → unwrap_or found old ≡ last_number (payloads n s (fields ++ f ∷ []))
-number-more n s fields f found old e h =
+number-more make is n s fields f found old e h =
     ap (unwrap_or found) h
     ∙ sym
     (ap last_number (payloads-append n s fields (f ∷ []) ∙ ap (λ l. payloads n s fields ++ l) e)
-    ∙ last-number (payloads n s fields) found)
-
-last-fixed64 : (ps : List Payload) (found : Option ℕ)
-    → last_number (ps ++ option_to_list (option_map i64 found)) ≡ unwrap_or found (last_number ps)
-last-fixed64 ps None = ap last_number (append-nil ps)
-last-fixed64 ps (Some n) =
-    ap (λ o. number_in (unwrap_or o (varint 0))) (last_or-push None ps (i64 n))
-
--- The last number of 8 bytes of a field of the table is right after one more field, found or not.
-pub fixed64-more : (n : ℕ) (s : Shape) (fields : List Field) (f : Field) (found : Option ℕ)
-    (old : ℕ)
-    → payloads n s (f ∷ []) ≡ option_to_list (option_map i64 found) →
-    old ≡ last_number (payloads n s fields)
-    → unwrap_or found old ≡ last_number (payloads n s (fields ++ f ∷ []))
-fixed64-more n s fields f found old e h =
-    ap (unwrap_or found) h
-    ∙ sym
-    (ap last_number (payloads-append n s fields (f ∷ []) ∙ ap (λ l. payloads n s fields ++ l) e)
-    ∙ last-fixed64 (payloads n s fields) found)
-
-last-fixed32 : (ps : List Payload) (found : Option ℕ)
-    → last_number (ps ++ option_to_list (option_map i32 found)) ≡ unwrap_or found (last_number ps)
-last-fixed32 ps None = ap last_number (append-nil ps)
-last-fixed32 ps (Some n) =
-    ap (λ o. number_in (unwrap_or o (varint 0))) (last_or-push None ps (i32 n))
-
--- The last number of 4 bytes of a field of the table is right after one more field, found or not.
-pub fixed32-more : (n : ℕ) (s : Shape) (fields : List Field) (f : Field) (found : Option ℕ)
-    (old : ℕ)
-    → payloads n s (f ∷ []) ≡ option_to_list (option_map i32 found) →
-    old ≡ last_number (payloads n s fields)
-    → unwrap_or found old ≡ last_number (payloads n s (fields ++ f ∷ []))
-fixed32-more n s fields f found old e h =
-    ap (unwrap_or found) h
-    ∙ sym
-    (ap last_number (payloads-append n s fields (f ∷ []) ∙ ap (λ l. payloads n s fields ++ l) e)
-    ∙ last-fixed32 (payloads n s fields) found)
+    ∙ last-number make is (payloads n s fields) found)
 
 -- The payloads that count in a partial success are right after one more field.
 pub counts-more : (old : PartialFields) (f : Field) (number : Option ℕ)
@@ -121,7 +87,10 @@ pub counts-more : (old : PartialFields) (f : Field) (number : Option ℕ)
     (fields : List Field) → Counts old fields
     → Counts (record { rejected_spans = spans; error_message = message }) (fields ++ f ∷ [])
 counts-more old f number bytes e1 e2 spans message s1 s2 fields h = record {
-  rejected_spans = s1 ∙ number-more 1 int64 fields f number old.rejected_spans e1 h.rejected_spans;
+  rejected_spans =
+      s1
+      ∙ number-more varint (λ v. refl) 1 int64 fields f number old.rejected_spans e1
+      h.rejected_spans;
   error_message =
       ap (λ b. b.now) s2 ∙ bytes-more 2 text fields f bytes old.error_message e2 h.error_message;
 }

@@ -3,7 +3,7 @@ use Rattle.std.proofs.Common.{◌≡◌, refl, sym, ap, ap₂, ◌∙◌, arith,
 use Rattle.std.proofs.Common.{true, false, cond, filter, map, ◌&&◌, ◌==◌}
 use Rattle.std.proofs.lemmas.Bool.{ne_eqb}
 use Rattle.std.specs.Borrow.{Bor}
-use Rattle.model_message.specs.Wire.{Field, varint, i64, i32, len}
+use Rattle.model_message.specs.Wire.{Field}
 use Rattle.model_message.proofs.ReadBack.{payloads-own}
 use Rattle.otlp_wire.specs.Fields.{payload_of, field_of}
 use Rattle.otlp_wire.specs.declared.reader.Field.{Field as Found}
@@ -45,12 +45,17 @@ other-type n s f h = rw (ne_eqb (wire_type f.payload) (wire s) h) (go (f.number 
 
 -- ---- a field that was read
 
--- A varint with this number is the one payload of this field of a table.
-pub found-varint : (f : Found) (n v : ℕ) → f.payload ≡ Varint v → f.number ≡ n → (s : Shape)
-    → wire s ≡ 0 → payloads n s (field_of f ∷ []) ≡ varint v ∷ []
-found-varint f n v e1 e2 s w =
-    ap₂ (λ m p. payloads n s (record { number = m; payload = payload_of p } ∷ [])) e2 e1
-    ∙ payloads-own n s (varint v) (sym w)
+-- A payload with this number and of this wire type is the one of this field of a table.
+pub found-one : (f : Found) (n : ℕ) (p : Payload) → f.payload ≡ p → f.number ≡ n → (s : Shape)
+    → wire s ≡ wire_type (payload_of p) → payloads n s (field_of f ∷ []) ≡ payload_of p ∷ []
+found-one f n p e1 e2 s w =
+    ap₂ (λ m q. payloads n s (record { number = m; payload = payload_of q } ∷ [])) e2 e1
+    ∙ payloads-own n s (payload_of p) (sym w)
+
+-- A payload of another wire type is none of this field of a table.
+pub no-one : (f : Found) (n kind : ℕ) → (wire_type (payload_of f.payload) ≡ kind → ⊥) → (s : Shape)
+    → wire s ≡ kind → payloads n s (field_of f ∷ []) ≡ []
+no-one f n kind other s w = other-type n s (field_of f) (λ e. other (e ∙ w))
 
 -- A payload that is no number of 8 bytes has another wire type than 1.
 pub is-fixed64 : (p : Payload) → ((v : ℕ) → p ≡ I64 v → ⊥) → wire_type (payload_of p) ≡ 1 → ⊥
@@ -59,43 +64,12 @@ is-fixed64 (I64 v) h e = h v refl
 is-fixed64 (Len b) h e = omega (arith, e)
 is-fixed64 (I32 v) h e = omega (arith, e)
 
--- A number of 8 bytes with this field number is the one payload of this field of a table.
-pub found-fixed64 : (f : Found) (n v : ℕ) → f.payload ≡ I64 v → f.number ≡ n → (s : Shape)
-    → wire s ≡ 1 → payloads n s (field_of f ∷ []) ≡ i64 v ∷ []
-found-fixed64 f n v e1 e2 s w =
-    ap₂ (λ m p. payloads n s (record { number = m; payload = payload_of p } ∷ [])) e2 e1
-    ∙ payloads-own n s (i64 v) (sym w)
-
--- A field that is no number of 8 bytes has no payload for a table's field of 8 bytes.
-pub no-fixed64 : (f : Found) (n : ℕ) → ((v : ℕ) → f.payload ≡ I64 v → ⊥) → (s : Shape) → wire s ≡ 1
-    → payloads n s (field_of f ∷ []) ≡ []
-no-fixed64 f n h s w = other-type n s (field_of f) (λ e. is-fixed64 f.payload h (e ∙ w))
-
 -- A payload that is no number of 4 bytes has another wire type than 5.
 pub is-fixed32 : (p : Payload) → ((v : ℕ) → p ≡ I32 v → ⊥) → wire_type (payload_of p) ≡ 5 → ⊥
 is-fixed32 (Varint v) h e = omega (arith, e)
 is-fixed32 (I64 v) h e = omega (arith, e)
 is-fixed32 (Len b) h e = omega (arith, e)
 is-fixed32 (I32 v) h e = h v refl
-
--- A number of 4 bytes with this field number is the one payload of this field of a table.
-pub found-fixed32 : (f : Found) (n v : ℕ) → f.payload ≡ I32 v → f.number ≡ n → (s : Shape)
-    → wire s ≡ 5 → payloads n s (field_of f ∷ []) ≡ i32 v ∷ []
-found-fixed32 f n v e1 e2 s w =
-    ap₂ (λ m p. payloads n s (record { number = m; payload = payload_of p } ∷ [])) e2 e1
-    ∙ payloads-own n s (i32 v) (sym w)
-
--- A field that is no number of 4 bytes has no payload for a table's field of 4 bytes.
-pub no-fixed32 : (f : Found) (n : ℕ) → ((v : ℕ) → f.payload ≡ I32 v → ⊥) → (s : Shape) → wire s ≡ 5
-    → payloads n s (field_of f ∷ []) ≡ []
-no-fixed32 f n h s w = other-type n s (field_of f) (λ e. is-fixed32 f.payload h (e ∙ w))
-
--- Length-delimited bytes with this field number are the one payload of this field of a table.
-pub found-bytes : (f : Found) (n : ℕ) (bytes : Bor (List ℕ)) → f.payload ≡ Len bytes → f.number ≡ n
-    → (s : Shape) → wire s ≡ 2 → payloads n s (field_of f ∷ []) ≡ len bytes.now ∷ []
-found-bytes f n bytes e1 e2 s w =
-    ap₂ (λ m p. payloads n s (record { number = m; payload = payload_of p } ∷ [])) e2 e1
-    ∙ payloads-own n s (len bytes.now) (sym w)
 
 -- A payload that is no varint has another wire type than 0.
 pub is-varint : (p : Payload) → ((v : ℕ) → p ≡ Varint v → ⊥) → wire_type (payload_of p) ≡ 0 → ⊥
@@ -111,13 +85,3 @@ is-bytes (Varint v) h e = omega (arith, e)
 is-bytes (I64 v) h e = omega (arith, e)
 is-bytes (Len b) h e = h b refl
 is-bytes (I32 v) h e = omega (arith, e)
-
--- A field that is no varint has no payload for a table's field of varints.
-pub no-varint : (f : Found) (n : ℕ) → ((v : ℕ) → f.payload ≡ Varint v → ⊥) → (s : Shape)
-    → wire s ≡ 0 → payloads n s (field_of f ∷ []) ≡ []
-no-varint f n h s w = other-type n s (field_of f) (λ e. is-varint f.payload h (e ∙ w))
-
--- A field that is not length-delimited has no payload for a table's length-delimited field.
-pub no-bytes : (f : Found) (n : ℕ) → ((b : Bor (List ℕ)) → f.payload ≡ Len b → ⊥) → (s : Shape)
-    → wire s ≡ 2 → payloads n s (field_of f ∷ []) ≡ []
-no-bytes f n h s w = other-type n s (field_of f) (λ e. is-bytes f.payload h (e ∙ w))

@@ -1,5 +1,6 @@
 -- What is read of a text that was written.
-use Rattle.std.proofs.Common.{◌≡◌, ℕ, false, List, [], ◌∷◌, ◌++◌, Option, Some, None, refl, ◌∙◌, ap}
+use Rattle.std.proofs.Common.{◌≡◌, ℕ, true, false, List, [], ◌∷◌, ◌++◌, Option, Some, None, refl}
+use Rattle.std.proofs.Common.{◌∙◌, ap}
 use Rattle.std.proofs.Common.{map, inl, inr, append_assoc, eqb, eqb-true}
 use Rattle.std.proofs.lemmas.Bool.{cases_Bool}
 use Rattle.std.specs.Prelude.{option_map}
@@ -10,54 +11,25 @@ use Rattle.page_text.specs.Written.{char_markup, shown_char, text_markup}
 abbrev pub after_char : ℕ → Option (List ℕ) → Option (List ℕ)
 after_char c read = option_map (λ cs. c ∷ cs) read
 
-reads_amp : (place : Place) (c : ℕ) (after : List ℕ) → c ≡ 38
-    → read_from place None (char_markup c ++ after)
+-- a character that was written is read, and then what comes after it
+abbrev ReadsChar : Place → List ℕ → ℕ → Type 0
+ReadsChar place after c =
+    read_from place None (char_markup c ++ after)
     ≡ after_char (shown_char c) (read_from place None after)
-unfolding char_markup
-reads_amp place c after e = rw e refl
 
-reads_lt : (place : Place) (c : ℕ) (after : List ℕ) → c ≡ 60
-    → read_from place None (char_markup c ++ after)
-    ≡ after_char (shown_char c) (read_from place None after)
-unfolding char_markup
-reads_lt place c after e = rw e refl
+reads_at : (place : Place) (after : List ℕ) (c mark : ℕ) → ReadsChar place after mark
+    → eqb c mark ≡ true → ReadsChar place after c
+reads_at place after c mark known same = rw (eqb-true c mark same) known
 
-reads_gt : (place : Place) (c : ℕ) (after : List ℕ) → c ≡ 62
-    → read_from place None (char_markup c ++ after)
-    ≡ after_char (shown_char c) (read_from place None after)
+reads_nul : (place : Place) (after : List ℕ) → ReadsChar place after 0
 unfolding char_markup
-reads_gt place c after e = rw e refl
-
-reads_quote : (place : Place) (c : ℕ) (after : List ℕ) → c ≡ 34
-    → read_from place None (char_markup c ++ after)
-    ≡ after_char (shown_char c) (read_from place None after)
-unfolding char_markup
-reads_quote place c after e = rw e refl
-
-reads_apostrophe : (place : Place) (c : ℕ) (after : List ℕ) → c ≡ 39
-    → read_from place None (char_markup c ++ after)
-    ≡ after_char (shown_char c) (read_from place None after)
-unfolding char_markup
-reads_apostrophe place c after e = rw e refl
-
-reads_return : (place : Place) (c : ℕ) (after : List ℕ) → c ≡ 13
-    → read_from place None (char_markup c ++ after)
-    ≡ after_char (shown_char c) (read_from place None after)
-unfolding char_markup
-reads_return place c after e = rw e refl
-
-reads_nul : (place : Place) (c : ℕ) (after : List ℕ) → c ≡ 0
-    → read_from place None (char_markup c ++ after)
-    ≡ after_char (shown_char c) (read_from place None after)
-unfolding char_markup
-reads_nul Content c after e = rw e refl
-reads_nul DoubleQuoted c after e = rw e refl
-reads_nul SingleQuoted c after e = rw e refl
+reads_nul Content after = refl
+reads_nul DoubleQuoted after = refl
+reads_nul SingleQuoted after = refl
 
 reads_plain : (place : Place) (c : ℕ) (after : List ℕ) → eqb c 38 ≡ false → eqb c 60 ≡ false
     → eqb c 62 ≡ false → eqb c 34 ≡ false → eqb c 39 ≡ false → eqb c 13 ≡ false → eqb c 0 ≡ false
-    → read_from place None (char_markup c ++ after)
-    ≡ after_char (shown_char c) (read_from place None after)
+    → ReadsChar place after c
 unfolding char_markup
 reads_plain Content c after amp lt gt quote apostrophe return nul =
     rw (amp, lt, gt, quote, apostrophe, return, nul) (rw (amp, lt, return, nul) refl)
@@ -66,24 +38,22 @@ reads_plain DoubleQuoted c after amp lt gt quote apostrophe return nul =
 reads_plain SingleQuoted c after amp lt gt quote apostrophe return nul =
     rw (amp, lt, gt, quote, apostrophe, return, nul) (rw (amp, apostrophe, return, nul) refl)
 
--- a character that was written is read
-reads_char : (place : Place) (c : ℕ) (after : List ℕ)
-    → read_from place None (char_markup c ++ after)
-    ≡ after_char (shown_char c) (read_from place None after)
+reads_char : (place : Place) (c : ℕ) (after : List ℕ) → ReadsChar place after c
+unfolding char_markup
 reads_char place c after = elim (cases_Bool (eqb c 38)) [
-  | inl h ↦ reads_amp place c after (eqb-true c 38 h)
+  | inl h ↦ reads_at place after c 38 refl h
   | inr amp ↦ elim (cases_Bool (eqb c 60)) [
-    | inl h ↦ reads_lt place c after (eqb-true c 60 h)
+    | inl h ↦ reads_at place after c 60 refl h
     | inr lt ↦ elim (cases_Bool (eqb c 62)) [
-      | inl h ↦ reads_gt place c after (eqb-true c 62 h)
+      | inl h ↦ reads_at place after c 62 refl h
       | inr gt ↦ elim (cases_Bool (eqb c 34)) [
-        | inl h ↦ reads_quote place c after (eqb-true c 34 h)
+        | inl h ↦ reads_at place after c 34 refl h
         | inr quote ↦ elim (cases_Bool (eqb c 39)) [
-          | inl h ↦ reads_apostrophe place c after (eqb-true c 39 h)
+          | inl h ↦ reads_at place after c 39 refl h
           | inr apostrophe ↦ elim (cases_Bool (eqb c 13)) [
-            | inl h ↦ reads_return place c after (eqb-true c 13 h)
+            | inl h ↦ reads_at place after c 13 refl h
             | inr return ↦ elim (cases_Bool (eqb c 0)) [
-              | inl h ↦ reads_nul place c after (eqb-true c 0 h)
+              | inl h ↦ reads_at place after c 0 (reads_nul place after) h
               | inr nul ↦ reads_plain place c after amp lt gt quote apostrophe return nul
             ]
           ]

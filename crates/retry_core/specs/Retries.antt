@@ -1,7 +1,7 @@
 -- What outcomes of attempts, what follows from them, and how batches end are in the model.
 use Rattle.std.specs.Prelude.{ℕ, option_map}
-use Rattle.model_retry.specs.Retries as model
-use Rattle.model_retry.specs.Waits as waiting
+use Rattle.model_desk.specs.Retries as model
+use Rattle.model_desk.specs.Waits as waiting
 use Rattle.retry_core.specs.declared.outcome.Outcome.{Outcome}
 use Rattle.retry_core.specs.declared.outcome.Outcome.TheVariants as outcomes
 use Rattle.retry_core.specs.declared.outcome.RetryAfter.{RetryAfter}

@@ -1,7 +1,7 @@
 //! How often a batch is sent, and how long the waits between are.
 
 ghost use Rattle.std.specs.Prelude.{◌≡◌, ◌≤◌, ◌↔◌, IfOk, IsErr};
-ghost use Rattle.model_retry.specs.Waits.{IsRetryConfig, longest_ms};
+ghost use Rattle.model_desk.specs.Waits.{IsRetryConfig, longest_ms};
 ghost use Rattle.retry_core.specs.Retries.{default_retry, without_least};
 
 use std::marker::Model;
@@ -25,8 +25,8 @@ pub struct RetryConfig {
 }
 
 impl Model for RetryConfig {
-    ghost use Rattle.model_retry.specs.Waits as waits;
-    ghost use Rattle.model_retry.specs.Waits.{IsRetryConfig};
+    ghost use Rattle.model_desk.specs.Waits as waits;
+    ghost use Rattle.model_desk.specs.Waits.{IsRetryConfig};
 
     ghost Value = { waits.RetryConfig };
 

@@ -1,8 +1,8 @@
 //! What follows from an outcome.
 
 ghost use Rattle.std.specs.Prelude.{◌≡◌, ◌≤◌, option_map};
-ghost use Rattle.model_retry.specs.Retries.{fate_of, next_of};
-ghost use Rattle.model_retry.specs.Waits.{next_after, retried};
+ghost use Rattle.model_desk.specs.Retries.{fate_of, next_of};
+ghost use Rattle.model_desk.specs.Waits.{next_after, retried};
 ghost use Rattle.retry_core.specs.Retries.{fate_view, next_view, outcome_view, retry_after_view};
 
 use crate::config::RetryConfig;

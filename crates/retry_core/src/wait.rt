@@ -1,7 +1,7 @@
 //! How long the waits between the attempts of a batch are.
 
 ghost use Rattle.std.specs.Prelude.{◌≡◌, ◌≤◌, min, option_map};
-ghost use Rattle.model_retry.specs.Waits.{asked_ns, backoff_ms, greatest_wait, wait_ns};
+ghost use Rattle.model_desk.specs.Waits.{asked_ns, backoff_ms, greatest_wait, wait_ns};
 ghost use Rattle.retry_core.specs.Retries.{retry_after_view};
 
 use crate::config::RetryConfig;

@@ -14,17 +14,18 @@ use Rattle.batch_desk.specs.declared.totals.Totals.{Totals}
 use Rattle.span_exporter.specs.Handed.{Handed, Gains}
 use Rattle.account_book.specs.Accounts.{Replaces, Removes, Closes}
 use Rattle.account_book.proofs.Facts.{each_closed, each_removed, each_same, gathered_all}
-use Rattle.account_book.proofs.Facts.{length_removed, nothing_of, one_replaced, part_kept}
+use Rattle.account_book.proofs.Facts.{length_removed, nothing_of, part_kept}
 use Rattle.model_processor.specs.Passes.{PassAccount, accepted_spans, all_accepted, all_dropped}
 use Rattle.model_processor.specs.Passes.{all_popped, all_popped_lost, dropped_entries, drops}
 use Rattle.model_processor.specs.Passes.{new_account}
 use Rattle.model_processor.specs.PassClauses.{CountsLate, GivesTickets, NamesDrops}
+use Rattle.model_processor.proofs.Holders.{first_set, new_passes, of_passes}
 use Rattle.model_processor.proofs.PassSteps.{gives_closed, gives_new, late_closed, late_new}
 use Rattle.model_processor.proofs.PassSteps.{losses_same, names_same}
 use Rattle.simple_processor.specs.Bodies.{Fits, Handing, LacksItsBody, LossesAreTold, attempt_in}
 use Rattle.simple_processor.specs.Bodies.{attempt_of_span, fates_of, losses_of, told_since}
 use Rattle.simple_processor.specs.ExportStates.{State, drops_in, new_state, ticket_count}
-use Rattle.simple_processor.specs.AnyAccounts.{Origin, AnyAccount, new_origin, pass, pass_account}
+use Rattle.simple_processor.specs.AnyAccounts.{Origin, AnyAccount, pass, pass_account}
 use Rattle.simple_processor.specs.AnyAccounts.{pass_accounts, processor}
 use Rattle.simple_processor.specs.Kept.{Agrees, IsAccountOf, IsOf, Kept, given_tickets}
 use Rattle.simple_processor.proofs.Ends.{gains_nothing}
@@ -68,20 +69,6 @@ agrees_new had max_body accounts all = record {
   late = late_new accounts all;
 }
 
-new_accounts : (holders : List AnyAccount) → AllByRecursion (λ h. h ≡ pass new_account) holders
-    → AllByRecursion (λ a. a ≡ new_account) (pass_accounts holders)
-new_accounts [] all = tt
-new_accounts (h ∷ holders) all =
-    let rest = new_accounts holders all.1 in
-    subst (λ (x : AnyAccount). AllByRecursion (λ a. a ≡ new_account) (pass_accounts (x ∷ holders)))
-    (sym all.0) (refl, rest)
-
-of_passes : (origin : Origin) (holders : List AnyAccount)
-    → AllByRecursion (λ h. h ≡ pass new_account) holders → AllByRecursion (IsOf origin) holders
-of_passes origin [] all = tt
-of_passes origin (h ∷ holders) all =
-    (subst (IsOf origin) (sym all.0) tt, of_passes origin holders all.1)
-
 -- What the lock guards of a new processor agrees with its account and those of its unused passes.
 pub kept_new : (origin : Origin) (holders opened : List AnyAccount)
     → holders ≡ processor origin ∷ opened → length opened ≤ origin.passes
@@ -94,7 +81,7 @@ kept_new origin holders opened is few all =
       origins = (refl, of_passes origin opened all);
       max_body = refl;
       agrees =
-          agrees_new origin.had origin.max_body (pass_accounts opened) (new_accounts opened all);
+          agrees_new origin.had origin.max_body (pass_accounts opened) (new_passes opened all);
     })
 
 -- What the lock guards of a new processor agrees with a book in which its account was opened and
@@ -102,20 +89,16 @@ kept_new origin holders opened is few all =
 pub kept_begins : (origin : Origin) (told : Option (List Handed)) (s : State)
     (empty one recorded holders opened : List AnyAccount) (u w : AnyAccount)
     → told ≡ origin.had → s ≡ new_state origin.max_body → empty ≡ []
-    → one ≡ empty ++ processor new_origin ∷ [] → Replaces one u w recorded → w ≡ processor origin
+    → one ≡ empty ++ pass new_account ∷ [] → Replaces one u w recorded → w ≡ processor origin
     → holders ≡ recorded ++ opened
     → length opened ≤ origin.passes → AllByRecursion (λ h. h ≡ pass new_account) opened
     → Kept origin told s holders
 kept_begins origin told s empty one recorded holders opened u w told_is s_is none one_is r w_is is
     few all =
-    let single : one ≡ processor new_origin ∷ [] =
-    one_is ∙ ap (λ (hs : List AnyAccount). hs ++ processor new_origin ∷ []) none in
-    let after : recorded ≡ w ∷ [] =
-    (one_replaced (processor new_origin) u w recorded
-    (subst (λ (hs : List AnyAccount). Replaces hs u w recorded) single r)).1 in
     let whole : holders ≡ processor origin ∷ opened =
     is
-    ∙ ap (λ (hs : List AnyAccount). hs ++ opened) (after ∙ ap (λ (h : AnyAccount). h ∷ []) w_is) in
+    ∙ ap (λ (hs : List AnyAccount). hs ++ opened)
+    (first_set empty one recorded (pass new_account) u w (processor origin) none one_is r w_is) in
     subst (λ o. Kept origin o s holders) (sym told_is)
     (subst (λ (x : State). Kept origin origin.had x holders) (sym s_is)
     (kept_new origin holders opened whole few all))

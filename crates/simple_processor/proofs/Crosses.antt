@@ -18,7 +18,8 @@ use Rattle.account_book.proofs.book.Book.TheSendSync as book
 use Rattle.simple_processor.specs.contracts.export.ExportState as ExportState
 use Rattle.simple_processor.specs.contracts.export.ExportState.TheInside as export
 use Rattle.simple_processor.specs.contracts.encoder.Encoder as Encoder
-use Rattle.simple_processor.specs.contracts.account.AccountState as AccountState
+use Rattle.processor_account.specs.contracts.state.AccountState as AccountState
+use Rattle.simple_processor.specs.contracts.account.SimpleOrigin as SimpleOrigin
 use Rattle.simple_processor.specs.contracts.pass.SimplePass as SimplePass
 use Rattle.simple_processor.specs.contracts.pass.SimplePass.TheInside as pass
 use Rattle.simple_processor.specs.contracts.shared.Shared as Shared
@@ -58,7 +59,10 @@ module _ (J E : RattleType) (g : naming.Ghosts J.Denot) (h : exporter.Ghosts E.D
   pass_send R r = view_send _ _ _ _ _ (
       declared_send (pass.the_type J E R Heap.the_row g h ghosts) (
         heap.Arc-send lock lock_send lock_sync,
-        (account.the_send J AccountState.the_row g, (as_row_send (row_field R) r, tt)),
+        (
+          account.the_send J (AccountState.the_row SimpleOrigin.the_row) g,
+          (as_row_send (row_field R) r, tt),
+        ),
       )
       )
 

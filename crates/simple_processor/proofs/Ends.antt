@@ -9,7 +9,7 @@ use Rattle.model_span.specs.Spans.{SpanData, with_ticket}
 use Rattle.model_span.specs.Dropped.{Reason, queue_full, encode_memory, too_large, abandoned, Entry}
 use Rattle.model_span.specs.Dropped.{entry_of}
 use Rattle.model_export.specs.Export.{LacksBody}
-use Rattle.model_retry.specs.Retries.{fate_of, next_of}
+use Rattle.model_desk.specs.Retries.{fate_of, next_of}
 use Rattle.model_desk.specs.Queue.{lost_as, lost_names}
 use Rattle.model_desk.specs.Desks.{DropCounts, capped, drop_counts, fate_counts, with_drops}
 use Rattle.model_desk.specs.Desks.{with_fate}

@@ -2,19 +2,11 @@
 -- OnEnd, Shutdown)
 use Rattle.std.specs.Prelude.{◌≡◌, ◌+◌, Bool, true, false}
 use Rattle.model_span.specs.Spans.{SpanData}
-use Rattle.otlp_span.specs.Dropped.{reason_view}
 use Rattle.otlp_span.specs.declared.reason.Reason.TheVariants as reasons
 use Rattle.trace_api.specs.declared.pass.Ended.{Ended}
 use Rattle.trace_api.specs.declared.pass.Ended.TheVariants as answers
-use Rattle.model_processor.specs.Passes.{PassAccount, after_accepted, after_dropped, after_late}
-
--- a pass's account after the end of a span, by the answer
-abbrev pub after_end : Ended → SpanData → PassAccount → PassAccount
-after_end (answers.Handed ticket) span account = after_accepted ticket span account
-after_end (answers.Dropped ticket reason) span account =
-    after_dropped (reason_view reason) ticket span account
-after_end answers.Late span account = after_late account
-after_end _ span account = account
+use Rattle.model_processor.specs.Passes.{PassAccount}
+pub use Rattle.processor_account.specs.Views.{after_end}
 
 -- What a simple processor answers: the span was handed, or there was no memory to encode it, or its
 -- body would be longer than it may be, or it was late. (Trace SDK, OnEnd)

@@ -1,7 +1,8 @@
 -- What the accounts of a simple processor say. (profile)
-use Rattle.std.specs.Prelude.{ℕ, List, filter_map, Option, Some, None}
+use Rattle.std.specs.Prelude.{ℕ, List, Option, None}
 use Rattle.span_exporter.specs.Handed.{Handed}
-use Rattle.model_processor.specs.Passes.{PassAccount, new_account}
+pub use Rattle.model_processor.specs.Holders.{Holder, processor, pass, origin_or, account_in}
+pub use Rattle.model_processor.specs.Holders.{pass_account, pass_accounts, on_pass}
 
 -- What a processor began with: how many passes it has, what its exporter showed that it had been
 -- handed before, and how many bytes a body may have.
@@ -10,31 +11,13 @@ pub record Origin : Type 0 where
   pub had : Option (List Handed)
   pub max_body : ℕ
 
--- the processor's own account, or that of a pass
-pub data AnyAccount : Type 0 where
-  processor : Origin → AnyAccount
-  pass : PassAccount → AnyAccount
+-- what an account of a simple processor says: no worker has one
+abbrev pub AnyAccount : Type 0
+AnyAccount = Holder Origin
 
 abbrev pub new_origin : Origin
 new_origin = record { passes = 0; had = None; max_body = 0 }
 
+-- what an account says that the processor began with
 abbrev pub origin_in : AnyAccount → Origin
-origin_in (processor origin) = origin
-origin_in (pass account) = new_origin
-
-abbrev pub account_in : AnyAccount → PassAccount
-account_in (processor origin) = new_account
-account_in (pass account) = account
-
-abbrev pub pass_account : AnyAccount → Option PassAccount
-pass_account (processor origin) = None
-pass_account (pass account) = Some account
-
--- the accounts of the passes
-abbrev pub pass_accounts : List AnyAccount → List PassAccount
-pass_accounts holders = filter_map pass_account holders
-
--- a change of a pass's account, and of no other
-abbrev pub on_pass : (PassAccount → PassAccount) → AnyAccount → AnyAccount
-on_pass f (processor origin) = processor origin
-on_pass f (pass account) = pass (f account)
+origin_in holder = origin_or new_origin holder

@@ -7,7 +7,7 @@ use Rattle.model_message.specs.Messages.{Triple, body_meaning}
 use Rattle.model_span.specs.Spans.{SpanData}
 use Rattle.model_export.specs.Export.{LacksBody, grouped_triples}
 use Rattle.model_span.specs.Dropped.{Entry}
-use Rattle.model_retry.specs.Retries.{Fate, Outcome, fate_of, next_of}
+use Rattle.model_desk.specs.Retries.{Fate, Outcome, fate_of, next_of}
 use Rattle.model_desk.specs.Queue.{lost_as}
 use Rattle.span_exporter.specs.Handed.{Handed}
 use Rattle.model_processor.specs.Passes.{Drop}

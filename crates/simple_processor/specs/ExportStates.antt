@@ -5,7 +5,7 @@ use Rattle.std.specs.Prelude.{◌∷◌, ◌++◌, length, Option, Some, None}
 use Rattle.model_span.specs.Spans.{SpanData, with_ticket}
 use Rattle.model_span.specs.Dropped.{Reason, encode_memory, too_large, Entry, entry_of}
 use Rattle.model_export.specs.Export.{LacksBody}
-use Rattle.model_retry.specs.Retries.{Fate, Outcome, fate_of, next_of}
+use Rattle.model_desk.specs.Retries.{Fate, Outcome, fate_of, next_of}
 use Rattle.model_desk.specs.Queue.{lost_names}
 use Rattle.model_desk.specs.Desks.{DropCounts, FateCounts, capped, no_drops, no_fates, with_fate}
 use Rattle.otlp_span.specs.Dropped.{reason_view}

@@ -12,12 +12,8 @@ use Rattle.simple_processor.specs.Bodies.{Fits, LacksItsBody, LossesAreTold, att
 use Rattle.simple_processor.specs.Bodies.{attempt_of_span, fates_of}
 use Rattle.simple_processor.specs.ExportStates.{State, AreTotals, drops_in, ticket_count}
 use Rattle.batch_desk.specs.declared.totals.Totals.{Totals}
-use Rattle.simple_processor.specs.AnyAccounts.{Origin, AnyAccount, processor, pass, pass_accounts}
-
--- the processor's own account says what it began with
-abbrev pub IsOf : Origin → AnyAccount → Type 0
-IsOf origin (processor said) = said ≡ origin
-IsOf origin (pass account) = Unit {0}
+pub use Rattle.model_processor.specs.Holders.{IsOf}
+use Rattle.simple_processor.specs.AnyAccounts.{Origin, AnyAccount, pass_accounts}
 
 -- What the exporter showed before and shows now, and what is counted, is what the passes know.
 pub record Agrees (had told : Option (List Handed)) (s : State) (accounts : List PassAccount)

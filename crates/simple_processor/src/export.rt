@@ -3,8 +3,8 @@ ghost use Rattle.std.specs.Prelude.{◌≡◌, ◌+◌, ◌-◌, ◌^◌, ◌<�
 ghost use Rattle.std.specs.Prelude.{OnErr, option_map, true};
 ghost use Rattle.model_span.specs.Dropped.{entry_of};
 ghost use Rattle.model_export.specs.Export.{LacksBody};
-ghost use Rattle.model_retry.specs.Retries as retries;
-ghost use Rattle.model_retry.specs.Retries.{next_of};
+ghost use Rattle.model_desk.specs.Retries as retries;
+ghost use Rattle.model_desk.specs.Retries.{next_of};
 ghost use Rattle.retry_core.specs.Retries.{fate_view, outcome_view};
 ghost use Rattle.otlp_span.specs.Dropped.{entry_view, reason_view};
 ghost use Rattle.otlp_proto.specs.Bodies.{reason_of};

@@ -18,4 +18,5 @@ pub use account::SimpleBlank;
 pub use account_book::Naming;
 pub use fault::SimpleFault;
 pub use pass::{Flushed, SimplePass};
-pub use processor::{MAX_PASSES, SimpleAccounts, SimpleMissing, SimpleParts, SimpleProcessor};
+pub use processor::{SimpleAccounts, SimpleMissing, SimpleParts, SimpleProcessor};
+pub use processor_account::MAX_PASSES;

@@ -4,7 +4,7 @@ ghost use Rattle.otlp_span.specs.Dropped.{entry_view};
 ghost use Rattle.model_processor.specs.Passes.{after_pop, after_pop_lost};
 ghost use Rattle.simple_processor.specs.Accounts.{after_shutdown};
 
-use crate::account::AccountState;
+use crate::account::SimpleState;
 use crate::shared::Shared;
 use account_book::{Account, Naming};
 use otlp_span::{Entry, SpanData};
@@ -27,7 +27,7 @@ pub struct Flushed;
 #[derive(Drop)]
 pub struct SimplePass<J: Naming, E: Exporter, R, A: Allocator = Global> {
     pub(crate) shared: Arc<Mutex<Shared<J, E, A>>, A>,
-    pub(crate) account: Account<J, AccountState>,
+    pub(crate) account: Account<J, SimpleState>,
     pub(crate) rt: R,
 }
 

@@ -13,9 +13,9 @@ ghost use Rattle.simple_processor.specs.Bodies.{Fits, LacksItsBody, LossesAreTol
 ghost use Rattle.simple_processor.specs.Bodies.{attempt_of_span, fates_of, told_since};
 ghost use Rattle.simple_processor.specs.AnyAccounts.{pass};
 ghost use Rattle.simple_processor.specs.Kept.{given_tickets};
-ghost use Rattle.simple_processor.specs.declared.processor.TheConstants.{MAX_PASSES};
+ghost use Rattle.processor_account.specs.declared.passes.TheConstants.{MAX_PASSES};
 
-use crate::account::{AccountState, Began, Begins, NewProcessor, SimpleBlank};
+use crate::account::{Began, Begins, SimpleBlank, SimpleState};
 use crate::encoder::Encoder;
 use crate::export::ExportState;
 use crate::fault::SimpleFault;
@@ -24,6 +24,7 @@ use crate::shared::Shared;
 use account_book::{Account, Naming};
 use batch_desk::Totals;
 use drop_ledger::Ledger;
+use processor_account::MAX_PASSES;
 use span_exporter::Exporter;
 use std::alloc::{AllocError, Allocator, Global};
 use std::fmt;
@@ -31,19 +32,13 @@ use std::marker::Model;
 use std::snapshot::Snapshot;
 use std::sync::{Arc, Mutex, Wait};
 
-/// The most passes that a processor may have (profile).
-pub const MAX_PASSES: usize = 64;
-
-// No clause says the number itself.
-const _: () = prove!(MAX_PASSES == 64);
-
 /// A simple processor (Trace SDK, "Simple processor"): an exporter that threads share under a lock,
 /// each by a pass of its own. In contracts it is what it began with: how many passes it has, what
 /// its exporter showed before, and how many bytes a body may have.
 #[derive(Drop)]
 pub struct SimpleProcessor<J: Naming, E: Exporter, R, A: Allocator = Global> {
     shared: Arc<Mutex<Shared<J, E, A>>, A>,
-    account: Account<J, AccountState>,
+    account: Account<J, SimpleState>,
     passes: usize,
     rt: R,
 }
@@ -137,14 +132,14 @@ impl<J: Naming, E: Exporter, R: Copy, A: Allocator + Copy> SimpleProcessor<J, E,
         }
         let encoder = Encoder::new(alloc, max_body)?;
         let mut book = blank.named::<J>();
-        let mut account = book.open::<NewProcessor>();
+        let mut account = book.open::<SimpleState>();
         let began = Began {
             passes,
             max_body,
             exporter: Snapshot::of(&exporter),
         };
         book.record::<Began<E>, Begins<E>>(&mut account, &began);
-        let accounts = book.open_all::<AccountState, A>(alloc, passes)?;
+        let accounts = book.open_all::<SimpleState, A>(alloc, passes)?;
         let shared = Shared {
             export: Some(ExportState::new(exporter, encoder)),
             book,
@@ -247,7 +242,7 @@ fn give_passes<J: Naming, E: Exporter + Drop, R: Copy, A: Allocator>(
     alloc: A,
     rt: R,
     shared: &Arc<Mutex<Shared<J, E, A>>, A>,
-    accounts: Vec<Account<J, AccountState>, A>,
+    accounts: Vec<Account<J, SimpleState>, A>,
 ) -> Result<Vec<SimplePass<J, E, R, A>, A>, AllocError>
     requires { AllByRecursion (λ h. h ≡ pass new_account) accounts.items }
     ensures count { IfOk result (λ passes. vec_len passes ≡ vec_len accounts) }

@@ -7,12 +7,13 @@ ghost use Rattle.simple_processor.specs.AnyAccounts.{account_in, on_pass, origin
 ghost use Rattle.simple_processor.specs.AnyAccounts.{processor};
 ghost use Rattle.simple_processor.specs.Kept.{IsAccountOf};
 
-use crate::account::{AccountState, Ends, Pops, PopsLost, ShutsDown, SpanEnded};
+use crate::account::{ShutsDown, SimpleState};
 use crate::export::ExportState;
 use crate::pass::SimplePass;
 use crate::processor::SimpleAccounts;
 use account_book::{Account, Book, Naming};
 use otlp_span::{Entry, SpanData};
+use processor_account::{Ends, Pops, PopsLost, SpanEnded};
 use span_exporter::Exporter;
 use std::alloc::Allocator;
 use std::marker::Model;
@@ -23,7 +24,7 @@ use trace_api::Ended;
 #[derive(Drop)]
 pub(crate) struct Shared<J: Naming, E: Exporter, A: Allocator> {
     pub(crate) export: Option<ExportState<E, A>>,
-    pub(crate) book: Book<J, AccountState>,
+    pub(crate) book: Book<J, SimpleState>,
     pub(crate) passes: usize,
     pub(crate) max_body: usize,
     pub(crate) began: Snapshot<E>,
@@ -45,7 +46,7 @@ impl<J: Naming, E: Exporter, A: Allocator + Copy> Shared<J, E, A> {
     /// A span ends on a pass.
     pub(crate) fn admit(
         &mut self,
-        account: &mut Account<J, AccountState>,
+        account: &mut Account<J, SimpleState>,
         span: SpanData<A>,
     ) -> Ended
         requires { account.old ≡ pass (account_in account.old) }
@@ -64,7 +65,7 @@ impl<J: Naming, E: Exporter, A: Allocator + Copy> Shared<J, E, A> {
     }
 
     /// A pass shuts the processor down.
-    pub(crate) fn shutdown(&mut self, account: &mut Account<J, AccountState>)
+    pub(crate) fn shutdown(&mut self, account: &mut Account<J, SimpleState>)
         requires { account.old ≡ pass (account_in account.old) }
         ensures { account.new ≡ on_pass after_shutdown account.old }
     {
@@ -77,7 +78,7 @@ impl<J: Naming, E: Exporter, A: Allocator + Copy> Shared<J, E, A> {
     }
 
     /// A pass pops an entry of the ledger.
-    pub(crate) fn pop_entry(&mut self, account: &mut Account<J, AccountState>) -> Option<Entry>
+    pub(crate) fn pop_entry(&mut self, account: &mut Account<J, SimpleState>) -> Option<Entry>
         requires { account.old ≡ pass (account_in account.old) }
         ensures some { IfSome result
             (λ entry. account.new ≡ on_pass (after_pop (entry_view entry)) account.old) }
@@ -93,7 +94,7 @@ impl<J: Naming, E: Exporter, A: Allocator + Copy> Shared<J, E, A> {
     }
 
     /// A pass pops an entry of the ledger of lost spans.
-    pub(crate) fn pop_lost(&mut self, account: &mut Account<J, AccountState>) -> Option<Entry>
+    pub(crate) fn pop_lost(&mut self, account: &mut Account<J, SimpleState>) -> Option<Entry>
         requires { account.old ≡ pass (account_in account.old) }
         ensures some { IfSome result
             (λ entry. account.new ≡ on_pass (after_pop_lost (entry_view entry)) account.old) }
@@ -111,7 +112,7 @@ impl<J: Naming, E: Exporter, A: Allocator + Copy> Shared<J, E, A> {
     /// Takes all out, once the processor and all passes are back.
     pub(crate) fn close<R>(
         &mut self,
-        mut account: Account<J, AccountState>,
+        mut account: Account<J, SimpleState>,
         passes: Vec<SimplePass<J, E, R, A>, A>,
     ) -> SimpleAccounts<E, A>
     where

@@ -1,6 +1,6 @@
 -- What an exporter was handed. (Trace SDK, Span Exporter; numbers of batches and attempts: profile)
 use Rattle.std.specs.Prelude.{◌≡◌, ℕ, List, [], ◌∷◌, ◌++◌, Option, option_map}
-use Rattle.model_retry.specs.Retries.{Outcome}
+use Rattle.model_desk.specs.Retries.{Outcome}
 
 -- An attempt to send a batch: the batch's number, which attempt of it this is, from 1 on, the body,
 -- and its outcome. (Trace SDK, Export)

@@ -1,6 +1,6 @@
 -- What an exporter over memory shows. (profile)
 use Rattle.std.specs.Prelude.{List, [], ◌∷◌}
-use Rattle.model_retry.specs.Retries.{Outcome}
+use Rattle.model_desk.specs.Retries.{Outcome}
 use Rattle.span_exporter.specs.Handed.{Handed}
 use Rattle.span_exporter.specs.Room.{Room}
 

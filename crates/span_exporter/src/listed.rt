@@ -18,7 +18,7 @@ pub(crate) struct ListedOutcomes<A: Allocator> {
 
 impl<A: Allocator> Model for ListedOutcomes<A> {
     ghost use Rattle.std.specs.Prelude.{◌≤◌, List, drop, length, map};
-    ghost use Rattle.model_retry.specs.Retries as model;
+    ghost use Rattle.model_desk.specs.Retries as model;
     ghost use Rattle.retry_core.specs.Retries.{outcome_view};
 
     ghost Value = { List model.Outcome };

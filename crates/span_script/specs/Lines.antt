@@ -6,7 +6,7 @@ use Rattle.std.specs.List.{slice_split}
 use Rattle.model_span.specs.Attributes as attributes
 use Rattle.model_span.specs.Spans as spans
 use Rattle.model_desk.specs.Desks.{DeskConfig}
-use Rattle.model_retry.specs.Retries.{Outcome}
+use Rattle.model_desk.specs.Retries.{Outcome}
 use Rattle.model_run.specs.Steps.{Step}
 use Rattle.otlp_value.specs.Value.{attribute_view}
 use Rattle.otlp_span.specs.Parts.{limits_view}

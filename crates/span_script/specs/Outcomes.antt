@@ -1,7 +1,7 @@
 -- What comes of an attempt to send a batch, as words. (OTLP Specification, OTLP/HTTP Response)
 use Rattle.std.specs.Prelude.{ℕ, ◌^◌, List, [], ◌∷◌, if◌then◌else◌, Option, Some, None, option_map}
 use Rattle.std.specs.Prelude.{bytes_eq, codes}
-use Rattle.model_retry.specs.Retries.{Outcome, RetryAfter, later, no_reply, seconds}
+use Rattle.model_desk.specs.Retries.{Outcome, RetryAfter, later, no_reply, seconds}
 use Rattle.text_words.specs.Words.{◌>>=◌, number_below, signed_number}
 
 -- an outcome that has no number

@@ -7,7 +7,7 @@ use Rattle.std.specs.List.{slice_split, list_all, position_or_len, range_with_le
 use Rattle.model_span.specs.Attributes as attributes
 use Rattle.model_span.specs.Spans as spans
 use Rattle.model_desk.specs.Desks.{DeskConfig}
-use Rattle.model_retry.specs.Retries.{Outcome}
+use Rattle.model_desk.specs.Retries.{Outcome}
 use Rattle.model_run.specs.Steps.{Step}
 use Rattle.text_words.specs.Words.{◌>>=◌, each_of}
 use Rattle.span_script.specs.Lines.{Line, words, sampler, limits, desk, max_body, resource, scope}

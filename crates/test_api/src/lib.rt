@@ -2,7 +2,7 @@
 //!
 //! Identifiers, contexts, values, lists of attributes, samplers with their ratios, and the
 //! generator of listed words; the parts of spans and their replay; tracers, spans, passes and short
-//! calls; and settings. The crate has no items of its own.
+//! calls; and the allocator of `test_support`. The crate has no items of its own.
 #![tactic(auto)]
 
 #[cfg(test)]

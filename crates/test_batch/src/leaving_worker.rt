@@ -2,9 +2,7 @@
 ghost use Rattle.std.specs.Prelude.{◌≡◌};
 
 use crate::equal::{assert_equal, assert_equal_at};
-use crate::fixture::{
-    Left, SECOND, assert_named, close, config, end, entry, exporter, make, queue, work,
-};
+use crate::fixture::{Left, SECOND, assert_named, close, end, exporter, make, queue, work};
 use crate::passes_on_threads::{ASKING, LOOKS, Task, do_first, is_reached};
 use batch_desk::Totals;
 use batch_processor::{BatchBlank, Flushed, Naming, Parts, Pass, WorkerLeft, WorkerPass};
@@ -17,6 +15,7 @@ use std::sync::Wait;
 use std::sync::atomic::AtomicU64;
 use std::thread::{self, Threads};
 use std::time::{Clock, Duration};
+use test_processor::made::{config, entry};
 use trace_api::Ended;
 
 /// Two spans are taken, and the worker leaves after this number of turns, twice. From then on it

@@ -2,7 +2,7 @@
 ghost use Rattle.std.specs.Prelude.{◌≡◌};
 
 use crate::equal::{assert_equal, assert_equal_at};
-use crate::fixture::{Left, Minutes, assert_named, close, config, entry, exporter, make, queue};
+use crate::fixture::{Left, Minutes, assert_named, close, exporter, make, queue};
 use batch_desk::{FateCounts, Totals};
 use batch_processor::{BatchBlank, Naming, Parts, Pass, WorkEnd};
 use otlp_span::{Entry, Reason};
@@ -12,6 +12,7 @@ use std::marker::Brand;
 use std::process::Abort;
 use std::sync::Wait;
 use std::time::Clock;
+use test_processor::made::{config, entry};
 use trace_api::WordsRng;
 
 const NONE: Outcome = Outcome::NoReply;

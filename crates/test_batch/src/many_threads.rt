@@ -2,7 +2,7 @@
 ghost use Rattle.std.specs.Prelude.{◌≡◌};
 
 use crate::equal::assert_equal;
-use crate::fixture::{Left, count_spans, exporter};
+use crate::fixture::{Left, exporter};
 use crate::passes_on_threads::{Plan, Task, carry};
 use batch_desk::{FateCounts, Totals};
 use batch_processor::{BatchBlank, Naming};
@@ -17,6 +17,7 @@ use std::sync::Wait;
 use std::sync::atomic::AtomicU64;
 use std::thread::Threads;
 use std::time::Clock;
+use test_processor::made::count_spans;
 
 /// Asserts that each of this number of spans, and one after the shutdown, was handed over, or
 /// dropped since the queue was full, or late, and that none is left.
@@ -73,7 +74,7 @@ where
     let handed = exporter.handed();
     assert_balanced(&rt, &left, handed.len() as u64, ended);
     let (sent, late) = (left.totals.handed, left.totals.late);
-    assert_equal(&rt, count_spans(&rt, alloc, handed) as u64, sent);
+    assert_equal(&rt, count_spans(alloc, handed), Some(sent as usize));
     (sent, late)
 }
 
@@ -140,7 +141,7 @@ where
     };
     assert_equal(&rt, left.totals, want);
     assert_equal(&rt, (left.names.len(), left.lost.len()), (0, 0));
-    assert_equal(&rt, count_spans(&rt, alloc, exporter.handed()), 20_000);
+    assert_equal(&rt, count_spans(alloc, exporter.handed()), Some(20_000));
 }
 
 #[test]

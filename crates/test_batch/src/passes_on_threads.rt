@@ -3,7 +3,7 @@ ghost use Rattle.std.specs.Prelude.{◌≡◌};
 ghost use Rattle.batch_processor.specs.Working.{IsPrepared};
 
 use crate::equal::assert_equal;
-use crate::fixture::{Left, close, config, end, entry, make};
+use crate::fixture::{Left, close, end, make};
 use batch_processor::{
     BatchBlank, BatchConfig, Clock as _, Flushed, ManualClock, Naming, Parts, Pass, SystemClock,
     WorkEnd, WorkerLeft, WorkerPass,
@@ -16,6 +16,7 @@ use std::sync::Wait;
 use std::sync::atomic::{AtomicU64, Ordering};
 use std::thread::{self, Threads};
 use std::time::{Clock, Duration};
+use test_processor::made::{config, entry};
 use trace_api::{Ended, WordsRng};
 
 /// A batch is being sent.

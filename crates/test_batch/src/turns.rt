@@ -4,8 +4,7 @@ ghost use Rattle.batch_processor.specs.Working.{IsPrepared};
 
 use crate::equal::{assert_equal, assert_equal_at};
 use crate::fixture::{
-    Left, Minutes, SECOND, assert_named, close, close_out, config, count_body, count_spans, end,
-    end_in, entry, exporter, make, queue, work,
+    Left, Minutes, SECOND, assert_named, close, end, end_in, exporter, make, queue, work,
 };
 use batch_processor::{
     BatchBlank, BatchConfig, BatchProcessor, Clock, Naming, Parts, Pass, SystemClock, WorkEnd,
@@ -21,6 +20,8 @@ use std::marker::Brand;
 use std::process::Abort;
 use std::sync::Wait;
 use std::time;
+use test_processor::batch::close_out;
+use test_processor::made::{config, count_body, count_spans, entry};
 use trace_api::{Ended, WordsRng};
 
 /// A collector that asks to be tried again in two seconds.
@@ -36,7 +37,7 @@ fn assert_sent_twice(rt: &impl Abort, alloc: Global, handed: &[Handed]) {
     for (attempt, (number, outcome)) in handed.iter().zip(wanted) {
         assert_equal(rt, (attempt.number, attempt.attempt), (1, number));
         assert_equal(rt, attempt.outcome, outcome);
-        assert_equal(rt, count_body(rt, alloc, attempt.body.as_slice()), (1, 1));
+        assert_equal(rt, count_body(alloc, attempt.body.as_slice()), Some((1, 1)));
     }
 }
 
@@ -324,7 +325,7 @@ fn one_turn_at_a_time_sends_the_same(rt: HostRuntime) {
     assert_equal(&rt, one_by_one.handed() == all.handed(), true);
     // The first batch takes 8 turns, for three attempts, and each other one 4.
     assert_equal(&rt, all.handed().len(), 251);
-    assert_equal(&rt, count_spans(&rt, rt.alloc(), all.handed()), 747);
+    assert_equal(&rt, count_spans(rt.alloc(), all.handed()), Some(747));
 }
 
 /// Asserts that these batches were sent, each by its number and by how many resources and how
@@ -338,7 +339,11 @@ fn assert_sent(
     assert_equal(rt, handed.len(), batches.len());
     for (attempt, (number, counts)) in handed.iter().zip(batches) {
         assert_equal(rt, attempt.number, *number);
-        assert_equal(rt, count_body(rt, alloc, attempt.body.as_slice()), *counts);
+        assert_equal(
+            rt,
+            count_body(alloc, attempt.body.as_slice()),
+            Some(*counts),
+        );
     }
 }
 

@@ -3,11 +3,9 @@
 mod answers;
 mod changed_bytes;
 mod chunks;
-mod devices;
 mod equal;
 mod faults;
 mod fixture;
-mod head_places;
 mod headers;
 mod kept;
 mod posts;

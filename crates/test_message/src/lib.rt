@@ -4,8 +4,8 @@
 //!
 //! Which bytes mean which spans is compared by runs of the programs: stored ones, in examples/runs,
 //! of those that are written, and those of tools/hostile-bodies of those that are read. Beside
-//! these are tests of the tree that `trace_tree` makes of spans that were read, of the texts of
-//! resource attributes of `otel_settings`, and of the allocator of `test_support`.
+//! these are tests of the tree that `trace_tree` makes of spans that were read, and of the settings
+//! of `otel_settings`.
 #![tactic(auto)]
 
 #[cfg(test)]

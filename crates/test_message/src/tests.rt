@@ -1,13 +1,15 @@
 //! The tests, a module for each part of what is tested, and what they share.
 
-mod allocator;
 mod bodies;
+mod environment;
 mod equal;
 mod exports;
+mod headers;
 mod requests;
 mod resources;
 mod responses;
 mod rows;
 mod samples;
+mod settings;
 mod trees;
 mod wire;

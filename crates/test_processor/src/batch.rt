@@ -12,4 +12,4 @@ mod fixture;
 mod memory;
 mod neighbors;
 
-pub use neighbors::close_two;
+pub use neighbors::{close_out, close_two, make};

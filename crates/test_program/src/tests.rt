@@ -3,8 +3,10 @@
 mod buffers;
 mod collector;
 mod deadlines;
+mod devices;
 mod equal;
 mod exporter;
 mod fixture;
+mod head_places;
 mod network;
 mod script_memory;

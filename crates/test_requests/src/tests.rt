@@ -6,6 +6,8 @@ mod client;
 mod contexts;
 mod equal;
 mod far_side;
+mod kept_client;
+mod kept_side;
 mod probe;
 mod requests;
 mod spans;

@@ -1,5 +1,5 @@
 //! The calls on a span, with what is lent to them.
-ghost use Rattle.std.specs.Prelude.{◌≡◌, OnErr, OnOk, map, true};
+ghost use Rattle.std.specs.Prelude.{◌≡◌, OnErr, OnOk, is_some, map, true};
 ghost use Rattle.model_span.specs.Spans as model;
 ghost use Rattle.model_span.specs.Starts.{Does, HeldSpan, IgnoredUnlessRecording};
 ghost use Rattle.model_span.specs.Starts.{is_recording_state};
@@ -109,19 +109,24 @@ pub trait SpanExt {
         ensures refused { OnErr result (is_recording_state (held self.old).state ≡ true) };
 }
 
-/// The memory that the span is on.
-fn memory_of<A: Allocator + Copy>(span: &Span<A>) -> A {
-    *span.context().state.allocator()
+/// The memory that the span is on, where calls on the span still count.
+fn recording_memory<A: Allocator + Copy>(span: &Span<A>) -> Option<A>
+    ensures { is_some result ≡ is_recording_state span.now.state }
+{
+    if span.is_recording() {
+        Some(*span.context().state.allocator())
+    } else {
+        None
+    }
 }
 
 impl<A: Allocator + Copy> SpanExt for Span<A> {
     ghost held = { λ span. span };
 
     fn set<V: ToValue>(&mut self, key: &str, value: V) -> Result<(), OutOfMemory> {
-        if !self.is_recording() {
+        let Some(alloc) = recording_memory(self) else {
             return Ok(());
-        }
-        let alloc = memory_of(self);
+        };
         let key = copy_text(alloc, key)?;
         let value = value.to_value().copy(alloc)?;
         self.set_attribute(key, value)
@@ -140,10 +145,9 @@ impl<A: Allocator + Copy> SpanExt for Span<A> {
         timestamp: u64,
         pairs: &[KeyValue<'_>],
     ) -> Result<(), OutOfMemory> {
-        if !self.is_recording() {
+        let Some(alloc) = recording_memory(self) else {
             return Ok(());
-        }
-        let alloc = memory_of(self);
+        };
         let name = copy_text(alloc, name)?;
         let attributes = copy_pairs(alloc, pairs)?;
         self.add_event(name, timestamp, attributes)
@@ -157,10 +161,9 @@ impl<A: Allocator + Copy> SpanExt for Span<A> {
         timestamp: u64,
         pairs: &[KeyValue<'_>],
     ) -> Result<(), OutOfMemory> {
-        if !self.is_recording() {
+        let Some(alloc) = recording_memory(self) else {
             return Ok(());
-        }
-        let alloc = memory_of(self);
+        };
         let exception_type = copy_text(alloc, exception_type)?;
         let message = copy_text(alloc, message)?;
         let stacktrace = copy_text(alloc, stacktrace)?;
@@ -173,29 +176,28 @@ impl<A: Allocator + Copy> SpanExt for Span<A> {
         context: &SpanContext<B>,
         pairs: &[KeyValue<'_>],
     ) -> Result<(), OutOfMemory> {
-        if !self.is_recording() {
+        let Some(alloc) = recording_memory(self) else {
             return Ok(());
-        }
-        let alloc = memory_of(self);
+        };
         let context = copy_context(alloc, context)?;
         let attributes = copy_pairs(alloc, pairs)?;
         self.add_link(context, attributes)
     }
 
     fn set_error(&mut self, description: &str) -> Result<(), OutOfMemory> {
-        if !self.is_recording() {
+        let Some(alloc) = recording_memory(self) else {
             return Ok(());
-        }
-        let description = copy_text(memory_of(self), description)?;
+        };
+        let description = copy_text(alloc, description)?;
         self.set_status(Status::Error(description));
         Ok(())
     }
 
     fn rename(&mut self, name: &str) -> Result<(), OutOfMemory> {
-        if !self.is_recording() {
+        let Some(alloc) = recording_memory(self) else {
             return Ok(());
-        }
-        let name = copy_text(memory_of(self), name)?;
+        };
+        let name = copy_text(alloc, name)?;
         self.update_name(name);
         Ok(())
     }

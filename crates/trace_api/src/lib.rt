@@ -6,6 +6,7 @@
 //!   are lent, and then do what the calls of the Trace API do.
 //! - [`end_span`] ends the span of a request over HTTP, a server's or a client's (OpenTelemetry
 //!   Semantic Conventions, "HTTP spans").
+//! - [`Clock`] is what spans are timed by: a [`SystemClock`], or a [`ManualClock`], which is set.
 //! - [`WordsRng`] is a generator of listed words, for identifiers that are known beforehand.
 #![tactic(auto)]
 
@@ -21,7 +22,7 @@ mod span;
 mod words;
 
 pub use attribute::{count_untraced, int_value, text_pair};
-pub use clock::Clock;
+pub use clock::{Clock, ManualClock, SystemClock};
 pub use end::{Ending, end_span};
 pub use extension::SpanExt;
 pub use lent::{KeyValue, ToValue, ValueRef};

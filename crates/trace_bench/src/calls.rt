@@ -1,7 +1,7 @@
 //! How long the calls take that set an attribute.
-use crate::figures::{median, nanos_since};
+use crate::figures::{Rounds, nanos_since};
 use crate::load::{ATTRIBUTES, set_attributes, set_lent, start_spans};
-use crate::rows::write_calls;
+use crate::tables::Tables;
 use anyhow::Result;
 use std::alloc::Global;
 use std::io::Write;
@@ -38,18 +38,23 @@ fn time_way(clock: &impl Clock, alloc: Global, spans: &mut [Span], way: Way) -> 
     Ok(nanos.checked_div(calls).unwrap_or(0))
 }
 
-/// Prints how long a call of each way takes, in the middle one of some rounds, which take turns.
-pub fn print_calls<R, W: Write>(rt: &R, alloc: Global, output: &mut W) -> Result<()>
-where
-    R: RandomSource + Clock,
-{
-    let (mut handed, mut lent) = (Vec::new(alloc), Vec::new(alloc));
-    for _round in 0..ROUNDS {
-        let mut spans = start_spans(rt, alloc, SPANS)?;
-        handed.push(time_way(rt, alloc, spans.as_mut_slice(), Way::Handed)?)?;
-        let mut spans = start_spans(rt, alloc, SPANS)?;
-        lent.push(time_way(rt, alloc, spans.as_mut_slice(), Way::Lent)?)?;
+impl<R: RandomSource + Clock, W: Write> Tables<R, W> {
+    /// Prints how long a call of each way takes, in the middle one of some rounds, which take
+    /// turns.
+    pub fn print_calls(&mut self) -> Result<()> {
+        let mut rounds = Rounds::new(self.alloc);
+        for _round in 0..ROUNDS {
+            let mut spans = start_spans(&self.rt, self.alloc, SPANS)?;
+            let handed = time_way(&self.rt, self.alloc, spans.as_mut_slice(), Way::Handed)?;
+            let mut spans = start_spans(&self.rt, self.alloc, SPANS)?;
+            let lent = time_way(&self.rt, self.alloc, spans.as_mut_slice(), Way::Lent)?;
+            rounds.add_two(handed, lent)?;
+        }
+        let (handed, lent) = rounds.middle_two()?;
+        writeln!(
+            self.output,
+            "an attribute: set_attribute {handed} ns, set {lent} ns"
+        )?;
+        Ok(())
     }
-    write_calls(output, median(handed)?, median(lent)?)?;
-    Ok(())
 }

@@ -1,6 +1,4 @@
 //! Figures of what was measured.
-use crate::plain::Holds;
-use crate::threads::Counts;
 use anyhow::Result;
 use std::alloc::Global;
 use std::io;
@@ -43,105 +41,56 @@ impl Spread {
     }
 }
 
-/// What rounds came to.
+/// What rounds came to: four numbers of each, of which some are 0 where fewer are measured.
 #[derive(Drop)]
 pub struct Rounds {
-    spans: Vec<u64>,
-    p50s: Vec<u64>,
-    p999s: Vec<u64>,
-    longest: u64,
-    handed: u64,
-    dropped: u64,
-}
-
-/// What rounds came to, in the middle one of them.
-#[derive(Clone, Copy)]
-pub struct Row {
-    /// How long a span took its thread, in nanoseconds.
-    pub span: u64,
-    /// How long an end took: its longest is that of all rounds.
-    pub ends: Spread,
-    /// How many spans of the rounds in which no end was timed were handed to the exporter.
-    pub handed: u64,
-    /// How many of them were dropped since the queue was full.
-    pub dropped: u64,
+    first: Vec<u64>,
+    second: Vec<u64>,
+    third: Vec<u64>,
+    fourth: Vec<u64>,
 }
 
 impl Rounds {
     /// Of no round.
     pub fn new(alloc: Global) -> Rounds {
         Rounds {
-            spans: Vec::new(alloc),
-            p50s: Vec::new(alloc),
-            p999s: Vec::new(alloc),
-            longest: 0,
-            handed: 0,
-            dropped: 0,
+            first: Vec::new(alloc),
+            second: Vec::new(alloc),
+            third: Vec::new(alloc),
+            fourth: Vec::new(alloc),
         }
     }
 
-    /// Adds a round in which no end was timed: so many nanoseconds for so many spans.
-    pub fn add_untimed(&mut self, nanos: u64, spans: u64, counts: Counts) -> Result<()> {
-        self.spans.push(nanos.checked_div(spans).unwrap_or(0))?;
-        self.handed = self.handed.saturating_add(counts.handed);
-        self.dropped = self.dropped.saturating_add(counts.dropped);
+    /// Adds a round.
+    pub fn add(&mut self, round: (u64, u64, u64, u64)) -> Result<()> {
+        self.first.push(round.0)?;
+        self.second.push(round.1)?;
+        self.third.push(round.2)?;
+        self.fourth.push(round.3)?;
         Ok(())
     }
 
-    /// Adds the ends of a round in which they were timed.
-    pub fn add_ends(&mut self, ends: Spread) -> Result<()> {
-        self.p50s.push(ends.p50)?;
-        self.p999s.push(ends.p999)?;
-        self.longest = self.longest.max(ends.longest);
-        Ok(())
+    /// Adds a round of which two numbers are measured.
+    pub fn add_two(&mut self, first: u64, second: u64) -> Result<()> {
+        self.add((first, second, 0, 0))
     }
 
-    /// The middle one of the rounds.
-    pub fn row(self) -> Result<Row> {
-        let ends = Spread {
-            p50: median(self.p50s)?,
-            p999: median(self.p999s)?,
-            longest: self.longest,
-        };
-        Ok(Row {
-            span: median(self.spans)?,
-            ends,
-            handed: self.handed,
-            dropped: self.dropped,
-        })
-    }
-}
-
-/// How long a lock was held, each time, in nanoseconds.
-#[derive(Drop)]
-pub struct HoldTimes {
-    /// A batch is taken.
-    pub takes: Vec<u64>,
-    /// A batch is settled as delivered.
-    pub settles: Vec<u64>,
-    /// A batch is settled as lost.
-    pub losses: Vec<u64>,
-    /// A batch is dropped.
-    pub drops: Vec<u64>,
-}
-
-impl HoldTimes {
-    /// Of no hold.
-    pub fn new(alloc: Global) -> HoldTimes {
-        HoldTimes {
-            takes: Vec::new(alloc),
-            settles: Vec::new(alloc),
-            losses: Vec::new(alloc),
-            drops: Vec::new(alloc),
-        }
+    /// The middle one of each.
+    pub fn middle(self) -> Result<(u64, u64, u64, u64)> {
+        let (first, second) = (median(self.first)?, median(self.second)?);
+        Ok((first, second, median(self.third)?, median(self.fourth)?))
     }
 
-    /// Adds what was timed.
-    pub fn add(&mut self, holds: Holds) -> Result<()> {
-        self.takes.push(holds.take)?;
-        self.settles.push(holds.settle)?;
-        self.losses.push(holds.lose)?;
-        self.drops.push(holds.drop)?;
-        Ok(())
+    /// The middle one of each of the first two.
+    pub fn middle_two(self) -> Result<(u64, u64)> {
+        let (first, second, _, _) = self.middle()?;
+        Ok((first, second))
+    }
+
+    /// How each spreads.
+    pub fn spreads(self) -> Result<(Spread, Spread, Spread, Spread)> {
+        let (first, second) = (Spread::new(self.first)?, Spread::new(self.second)?);
+        let (third, fourth) = (Spread::new(self.third)?, Spread::new(self.fourth)?);
+        Ok((first, second, third, fourth))
     }
 }

@@ -9,6 +9,7 @@ use rand::make_rng;
 use rand::rngs::StdRng;
 use rand_core::Rng;
 use std::alloc::Global;
+use std::io::Write;
 use std::random::RandomSource;
 use std::sync::Arc;
 use std::time::{Clock, Duration, Instant};
@@ -19,15 +20,15 @@ use trace_api::{EndPass, Provider, Span, SpanExt, Tracer};
 const START: u64 = 1_700_000_000_000_000_000;
 
 /// When it ends.
-const END: u64 = START + 1_000_000;
+pub const END: u64 = START + 1_000_000;
 
 /// Attributes that a span may have.
 pub const ATTRIBUTES: [(&str, &str); 5] = [
     ("http.request.method", "GET"),
-    ("url.path", "/cart"),
+    ("http.route", "/cart/{id}"),
     ("server.address", "shop.example"),
+    ("user_agent.original", "curl/8.5.0"),
     ("network.protocol.version", "1.1"),
-    ("user_agent.original", "bench/1.0"),
 ];
 
 /// After how many spans a thread pauses, and how long, in milliseconds.
@@ -73,6 +74,20 @@ impl Load {
             pauses: true,
             ..self
         }
+    }
+
+    /// Whether it pauses, in words.
+    pub fn how(&self) -> &'static str {
+        if self.pauses { "pausing" } else { "at once" }
+    }
+
+    /// Writes what so many threads do.
+    pub fn write<W: Write>(&self, output: &mut W, threads: usize) -> io::Result<()> {
+        let (how, attributes) = (self.how(), self.attributes);
+        write!(
+            output,
+            "{threads} threads, {how}, {attributes} attributes: "
+        )
     }
 
     /// Whether a thread pauses after the span of this number.
@@ -122,7 +137,7 @@ pub fn set_lent(span: &mut Span, count: usize) -> Result<(), OutOfMemory> {
 }
 
 /// Starts a span with so many attributes.
-fn start_span<G: Rng>(
+pub fn start_span<G: Rng>(
     alloc: Global,
     rng: &mut G,
     tracer: &Tracer<'_, AlwaysOn>,

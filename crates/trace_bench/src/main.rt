@@ -26,7 +26,6 @@ mod plain;
 mod posts;
 mod requests;
 mod rings;
-mod rows;
 mod tables;
 mod threads;
 mod traced;
@@ -34,6 +33,7 @@ mod traced;
 use anyhow::Result;
 use std::env;
 use std::process::ExitCode;
+use tables::Tables;
 
 /// Prints what bodies come to, measured in so many rounds where there are some.
 fn print_encoding(rt: &HostRuntime, rounds: u32) -> Result<()> {
@@ -47,15 +47,17 @@ fn print_encoding(rt: &HostRuntime, rounds: u32) -> Result<()> {
 }
 
 fn main(rt: HostRuntime) -> Result<ExitCode> {
-    let mut output = rt.stdout();
+    let mut tables = Tables {
+        rt,
+        alloc: rt.alloc(),
+        output: rt.stdout(),
+    };
     match env::args(&rt)?.nth(1) {
         None => {
             print_encoding(&rt, 0)?;
-            tables::print_counts(rt, rt.alloc(), &mut output)?
+            tables.print_counts()?
         }
-        Some(word) if word.as_str() == "measure" => {
-            tables::print_times(rt, rt.alloc(), &mut output)?
-        }
+        Some(word) if word.as_str() == "measure" => tables.print_times()?,
         Some(word) => match word.as_str().parse::<u32>() {
             Ok(rounds) => print_encoding(&rt, rounds)?,
             Err(_) => return Ok(ExitCode::FAILURE),

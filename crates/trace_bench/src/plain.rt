@@ -11,18 +11,10 @@ use trace_api::{EndPass, Ended};
 /// How many batches a full queue has, by the standard's numbers.
 const MAX_BATCHES: u32 = 4;
 
-/// How long a lock is held round what is done with whole batches, in nanoseconds.
-#[derive(Clone, Copy)]
-pub struct Holds {
-    /// A batch is taken.
-    pub take: u64,
-    /// It is settled as delivered: its spans are gone by then.
-    pub settle: u64,
-    /// Another one is settled as lost: its spans are named by then.
-    pub lose: u64,
-    /// A third one is dropped: its spans are named by then.
-    pub drop: u64,
-}
+/// How long a lock is held round what is done with whole batches, in nanoseconds: one is taken; it
+/// is settled as delivered, when its spans are gone; another one is settled as lost, and a third
+/// one is dropped, when their spans are named.
+pub type Holds = (u64, u64, u64, u64);
 
 /// Takes a batch, and settles it with this fate. How long it took to take it, and to settle it.
 fn time_settled(desk: &mut Desk, clock: &impl Clock, fate: Fate) -> Option<(u64, u64)> {
@@ -87,12 +79,7 @@ impl<R: Wait> PlainPass<R> {
         let (take, settle) = time_settled(&mut desk, clock, Fate::Delivered)?;
         let (_, lose) = time_settled(&mut desk, clock, Fate::GivenUp)?;
         let drop = time_dropped(&mut desk, clock)?;
-        Some(Holds {
-            take,
-            settle,
-            lose,
-            drop,
-        })
+        Some((take, settle, lose, drop))
     }
 }
 

@@ -1,9 +1,9 @@
 //! How long the field of a context takes to be written and read, and what a request takes whose
 //! answer has a span, beside one without.
-use crate::figures::{median, nanos_since};
+use crate::figures::{Rounds, nanos_since};
 use crate::load::{new_provider, start_spans};
 use crate::plain::PlainPass;
-use crate::rows::{write_headers, write_requests};
+use crate::tables::Tables;
 use anyhow::{Result, ensure};
 use batch_processor::SystemClock;
 use bytes::{BufMut, Bytes};
@@ -20,7 +20,7 @@ use std::sync::{Arc, Wait};
 use std::time::{Clock, Instant};
 use trace_api::Span;
 use trace_context::{read_traceparent, write_traceparent};
-use traced_server::{Handler, Origin, RequestSpan, ServerName, TracedService, Tracing};
+use traced_http::server::{Handler, Origin, RequestSpan, ServerName, TracedService, Tracing};
 
 /// How many rounds there are.
 const ROUNDS: u32 = 51;
@@ -53,22 +53,6 @@ fn time_headers(clock: &impl Clock, alloc: Global, spans: &[Span]) -> Result<(u6
     let read = nanos_since(clock, start)? / count;
     ensure!(found == spans.len() as u64, "a context wasn't read back");
     Ok((written, read))
-}
-
-/// Prints how long a context takes to be written and to be read, in the middle one of some rounds.
-fn print_headers<R, W: Write>(rt: &R, alloc: Global, output: &mut W) -> Result<()>
-where
-    R: RandomSource + Clock,
-{
-    let (mut written, mut read) = (Vec::new(alloc), Vec::new(alloc));
-    for _round in 0..ROUNDS {
-        let spans = start_spans(rt, alloc, COUNT)?;
-        let (write, back) = time_headers(rt, alloc, &spans)?;
-        written.push(write)?;
-        read.push(back)?;
-    }
-    write_headers(output, median(written)?, median(read)?)?;
-    Ok(())
 }
 
 /// Answers each request by the same text.
@@ -123,54 +107,72 @@ where
     Ok(nanos_since(rt, start)? / COUNT as u64)
 }
 
-/// How long a request takes whose answer has a span, which goes to a desk, in nanoseconds.
-fn time_traced<R>(rt: R, alloc: Global, requests: &[u8]) -> Result<u64>
+impl<R, W> Tables<R, W>
 where
     R: Wait + RandomSource + Clock + Copy + Drop,
+    W: Write,
 {
-    let provider = new_provider(alloc)?;
-    let mut pass = PlainPass::new(rt, alloc)?;
-    let tracing = Tracing {
-        tracer: provider.tracer(Arc::new(alloc, Scope::named(alloc, "shop")?)?),
-        rng: make_rng::<StdRng, R>(&rt)?,
-        clock: SystemClock::new(rt),
-        server: ServerName {
-            address: "shop.example",
-            port: 80,
-        },
-    };
-    let mut service = TracedService::new(alloc, tracing, Same, &mut pass);
-    let nanos = time_service(&rt, alloc, &mut service, requests);
-    let untraced = service.untraced();
-    drop(service);
-    ensure!(untraced == 0, "a request has no span");
-    nanos
-}
-
-/// Prints how long a request takes without a span and with one, in the middle one of some rounds,
-/// which take turns.
-fn print_served<R, W: Write>(rt: R, alloc: Global, output: &mut W) -> Result<()>
-where
-    R: Wait + RandomSource + Clock + Copy + Drop,
-{
-    let mut requests = Vec::new(alloc);
-    for _request in 0..COUNT {
-        requests.extend_from_slice(REQUEST)?;
+    /// Prints how long a context takes to be written and to be read, in the middle one of some
+    /// rounds.
+    fn print_headers(&mut self) -> Result<()> {
+        let mut rounds = Rounds::new(self.alloc);
+        for _round in 0..ROUNDS {
+            let spans = start_spans(&self.rt, self.alloc, COUNT)?;
+            let (written, read) = time_headers(&self.rt, self.alloc, &spans)?;
+            rounds.add_two(written, read)?;
+        }
+        let (written, read) = rounds.middle_two()?;
+        writeln!(
+            self.output,
+            "a traceparent: written {written} ns, read {read} ns"
+        )?;
+        Ok(())
     }
-    let (mut plain, mut traced) = (Vec::new(alloc), Vec::new(alloc));
-    for _round in 0..ROUNDS {
-        plain.push(time_service(&rt, alloc, &mut Same, &requests)?)?;
-        traced.push(time_traced(rt, alloc, &requests)?)?;
-    }
-    write_requests(output, median(plain)?, median(traced)?)?;
-    Ok(())
-}
 
-/// Prints what contexts and requests take.
-pub fn print_requests<R, W: Write>(rt: R, alloc: Global, output: &mut W) -> Result<()>
-where
-    R: Wait + RandomSource + Clock + Copy + Drop,
-{
-    print_headers(&rt, alloc, output)?;
-    print_served(rt, alloc, output)
+    /// How long a request takes whose answer has a span, which goes to a desk, in nanoseconds.
+    fn time_traced_request(&self, requests: &[u8]) -> Result<u64> {
+        let provider = new_provider(self.alloc)?;
+        let mut pass = PlainPass::new(self.rt, self.alloc)?;
+        let tracing = Tracing {
+            tracer: provider.tracer(Arc::new(self.alloc, Scope::named(self.alloc, "shop")?)?),
+            rng: make_rng::<StdRng, R>(&self.rt)?,
+            clock: SystemClock::new(self.rt),
+            server: ServerName {
+                address: "shop.example",
+                port: 80,
+            },
+        };
+        let mut service = TracedService::new(self.alloc, tracing, Same, &mut pass);
+        let nanos = time_service(&self.rt, self.alloc, &mut service, requests);
+        let untraced = service.untraced();
+        drop(service);
+        ensure!(untraced == 0, "a request has no span");
+        nanos
+    }
+
+    /// Prints how long a request takes without a span and with one, in the middle one of some
+    /// rounds, which take turns.
+    fn print_served(&mut self) -> Result<()> {
+        let mut requests = Vec::new(self.alloc);
+        for _request in 0..COUNT {
+            requests.extend_from_slice(REQUEST)?;
+        }
+        let mut rounds = Rounds::new(self.alloc);
+        for _round in 0..ROUNDS {
+            let plain = time_service(&self.rt, self.alloc, &mut Same, &requests)?;
+            rounds.add_two(plain, self.time_traced_request(&requests)?)?;
+        }
+        let (plain, traced) = rounds.middle_two()?;
+        writeln!(
+            self.output,
+            "a request: {plain} ns without a span, {traced} ns with one"
+        )?;
+        Ok(())
+    }
+
+    /// Prints what contexts and requests take.
+    pub fn print_requests(&mut self) -> Result<()> {
+        self.print_headers()?;
+        self.print_served()
+    }
 }

@@ -1,5 +1,5 @@
 //! How long a ring takes for a run of items, beside a deque.
-use crate::figures::{median, nanos_since};
+use crate::figures::{Rounds, median, nanos_since};
 use anyhow::{Context, Result};
 use span_ring::SpanRing;
 use std::alloc::Global;
@@ -9,56 +9,10 @@ use std::time::{Clock, Instant};
 /// How many rounds there are.
 const ROUNDS: u32 = 201;
 
-/// How long a run of items took, in nanoseconds.
-#[derive(Clone, Copy)]
-pub struct Took {
-    /// They are pushed, one by one.
-    pub push: u64,
-    /// They are taken out at once: nothing where they only leave one by one.
-    pub take: u64,
-    /// They are read and let go, and their room is given back.
-    pub release: u64,
-    /// The sum of what was read, so that all of it has to be done.
-    pub sum: u64,
-}
-
-/// What some rounds took.
-#[derive(Drop)]
-struct Rounds {
-    pushes: Vec<u64>,
-    takes: Vec<u64>,
-    releases: Vec<u64>,
-    sum: u64,
-}
-
-impl Rounds {
-    fn new(alloc: Global) -> Rounds {
-        Rounds {
-            pushes: Vec::new(alloc),
-            takes: Vec::new(alloc),
-            releases: Vec::new(alloc),
-            sum: 0,
-        }
-    }
-
-    fn add(&mut self, took: Took) -> Result<()> {
-        self.pushes.push(took.push)?;
-        self.takes.push(took.take)?;
-        self.releases.push(took.release)?;
-        self.sum = self.sum.wrapping_add(took.sum);
-        Ok(())
-    }
-
-    /// The middle one of each.
-    fn middle(self) -> Result<Took> {
-        Ok(Took {
-            push: median(self.pushes)?,
-            take: median(self.takes)?,
-            release: median(self.releases)?,
-            sum: self.sum,
-        })
-    }
-}
+/// How long a run of items took, in nanoseconds: to be pushed one by one; to be taken out at once,
+/// 0 where they only leave one by one; to be read and let go, and their room to be given back. And
+/// the sum of what was read, so that all of it has to be done.
+pub type Took = (u64, u64, u64, u64);
 
 /// Pushes so many items. How many found no room.
 fn push_items(ring: &mut SpanRing<u64>, count: u64) -> u64 {
@@ -95,12 +49,8 @@ fn time_run(clock: &impl Clock, ring: &mut SpanRing<u64>, count: u64) -> Result<
     ring.give_back(run);
     let released = Instant::now(clock)?;
     let taken = taken?;
-    Ok(Took {
-        push,
-        take: nanos_between(start, taken),
-        release: nanos_between(taken, released),
-        sum,
-    })
+    let take = nanos_between(start, taken);
+    Ok((push, take, nanos_between(taken, released), sum))
 }
 
 /// What a run of so many items takes through a ring of this size, in the middle one of some rounds.
@@ -139,12 +89,7 @@ fn time_items(clock: &impl Clock, deque: &mut VecDeque<u64>, count: u64) -> Resu
     for _item in 0..count {
         sum = sum.wrapping_add(deque.pop_front().unwrap_or(0));
     }
-    Ok(Took {
-        push,
-        take: 0,
-        release: nanos_since(clock, start)?,
-        sum,
-    })
+    Ok((push, 0, nanos_since(clock, start)?, sum))
 }
 
 /// What so many items take through a deque with room for them, in the middle one of some rounds.

@@ -1,18 +1,10 @@
 //! What is printed.
-use crate::calls::print_calls;
 use crate::counting::CountingExporter;
-use crate::figures::{HoldTimes, Rounds, Spread, median, nanos_since};
+use crate::figures::{Rounds, Spread, median, nanos_since};
 use crate::load::{Load, end_spans};
 use crate::plain::PlainPass;
-use crate::posts::print_posts;
-use crate::requests::print_requests;
-use crate::rings::{time_deque, time_full_ring, time_ring};
-use crate::rows::{
-    write_counts, write_full, write_hold, write_load, write_plain, write_refused, write_row,
-    write_run,
-};
-use crate::threads::{Round, idle_share, run_round};
-use crate::traced::print_traced;
+use crate::rings::{Took, time_deque, time_full_ring, time_ring};
+use crate::threads::{Counts, Round, idle_share, run_round};
 use anyhow::Result;
 use batch_processor::SystemClock;
 use span_ring::MAX_QUEUE;
@@ -48,193 +40,18 @@ const FULL: u64 = 2_048;
 /// How long an idle worker is watched, in milliseconds.
 const WATCH_MS: u64 = 2000;
 
-/// A round over a service whose exporter lets its batches go.
-fn one_round<R>(rt: R, alloc: Global, threads: usize, load: Load) -> Result<Round>
-where
-    R: Threads + Wait + RandomSource + Clock + Copy + Send + Sync + 'static,
-{
-    run_round(rt, alloc, CountingExporter::new(), threads, load)
-}
-
-/// Runs threads for a short time, and prints what became of their spans.
-pub fn print_counts<R, W: Write>(rt: R, alloc: Global, output: &mut W) -> Result<()>
-where
-    R: Threads + Wait + RandomSource + Clock + Copy + Send + Sync + 'static,
-{
-    for threads in [1usize, 2, 4] {
-        for attributes in [0usize, 5] {
-            let round = one_round(rt, alloc, threads, Load::at_once(FEW, attributes))?;
-            write_counts(output, threads, attributes, round.counts)?;
-        }
-    }
+/// Writes how long a lock is held round something.
+fn write_hold<W: Write>(output: &mut W, what: &str, held: Spread) -> Result<()> {
+    let (p50, longest) = (held.p50, held.longest);
+    write!(output, "{what} {p50} {longest} ns")?;
     Ok(())
 }
 
-/// What some rounds on so many threads come to; of each pair of them the second one times each end.
-fn run_rounds<R>(rt: R, alloc: Global, threads: usize, load: Load) -> Result<Rounds>
-where
-    R: Threads + Wait + RandomSource + Clock + Copy + Send + Sync + 'static,
-{
-    let spans = load.spans.saturating_mul(threads as u64);
-    let mut rounds = Rounds::new(alloc);
-    for _round in 0..ROUNDS {
-        let untimed = one_round(rt, alloc, threads, load)?;
-        rounds.add_untimed(untimed.times.nanos, spans, untimed.counts)?;
-        let timed = one_round(rt, alloc, threads, load.timed())?;
-        rounds.add_ends(Spread::new(timed.times.ends)?)?;
-    }
-    Ok(rounds)
-}
-
-/// Prints what spans took on so many threads, in the middle one of some rounds, and what became of
-/// the spans of all rounds.
-fn print_row<R, W: Write>(
-    rt: R,
-    alloc: Global,
-    output: &mut W,
-    threads: usize,
-    load: Load,
-) -> Result<()>
-where
-    R: Threads + Wait + RandomSource + Clock + Copy + Send + Sync + 'static,
-{
-    let row = run_rounds(rt, alloc, threads, load)?.row()?;
-    write_load(output, threads, load)?;
-    write_row(output, row)?;
-    Ok(())
-}
-
-/// What a batch of spans took of its thread into a desk under a plain mutex, and to be taken from
-/// it again, in nanoseconds.
-fn time_batch<R>(rt: &R, alloc: Global, load: Load, pass: &mut PlainPass<R>) -> Result<(u64, u64)>
-where
-    R: Wait + RandomSource + Clock + Copy + Drop,
-{
-    let took = end_spans(rt, alloc, load, pass)?;
-    let before = Instant::now(rt)?;
-    pass.drain();
-    Ok((took.nanos, nanos_since(rt, before)?))
-}
-
-/// The same, so many times: each span's part.
-fn time_batches<R>(rt: R, alloc: Global, load: Load, times: u64) -> Result<(u64, u64)>
-where
-    R: Wait + RandomSource + Clock + Copy + Drop,
-{
-    let mut pass = PlainPass::new(rt, alloc)?;
-    let (mut ends, mut whole) = (0u64, 0u64);
-    for _time in 0..times {
-        let (ended, drained) = time_batch(&rt, alloc, load, &mut pass)?;
-        ends = ends.saturating_add(ended);
-        whole = whole.saturating_add(ended).saturating_add(drained);
-    }
-    let spans = load.spans.saturating_mul(times);
-    Ok((
-        ends.checked_div(spans).unwrap_or(0),
-        whole.checked_div(spans).unwrap_or(0),
-    ))
-}
-
-/// Prints what spans took into a desk under a plain mutex, with and without the time in which they
-/// are taken from it again, in the middle one of some rounds of so many spans.
-fn print_plain_row<R, W: Write>(
-    rt: R,
-    alloc: Global,
-    output: &mut W,
-    load: Load,
-    spans: u64,
-) -> Result<()>
-where
-    R: Wait + RandomSource + Clock + Copy + Drop,
-{
-    let times = spans.checked_div(load.spans).unwrap_or(0);
-    let (mut ends, mut wholes) = (Vec::new(alloc), Vec::new(alloc));
-    for _round in 0..ROUNDS {
-        let (span, whole) = time_batches(rt, alloc, load, times)?;
-        ends.push(span)?;
-        wholes.push(whole)?;
-    }
-    write_plain(output, load, median(ends)?, median(wholes)?)?;
-    Ok(())
-}
-
-/// Prints such rows: of a batch at a time, of as many spans as fill the queue, and of a batch whose
-/// thread pauses after each burst.
-fn print_plain_rows<R, W: Write>(
-    rt: R,
-    alloc: Global,
-    output: &mut W,
-    attributes: usize,
-) -> Result<()>
-where
-    R: Wait + RandomSource + Clock + Copy + Drop,
-{
-    for at_a_time in [BATCH, FULL] {
-        let load = Load::at_once(at_a_time, attributes);
-        print_plain_row(rt, alloc, output, load, SPANS)?;
-    }
-    let load = Load::at_once(BATCH, attributes).pausing();
-    print_plain_row(rt, alloc, output, load, PAUSED_SPANS)
-}
-
-/// How long the lock of a desk is held round what a worker does with a batch, many times.
-fn time_holds<R>(rt: R, alloc: Global, attributes: usize) -> Result<HoldTimes>
-where
-    R: Wait + RandomSource + Clock + Copy + Drop,
-{
-    let load = Load::at_once(3 * BATCH, attributes);
-    let mut pass = PlainPass::new(rt, alloc)?;
-    let mut times = HoldTimes::new(alloc);
-    for _burst in 0..BURSTS {
-        end_spans(&rt, alloc, load, &mut pass)?;
-        if let Some(holds) = pass.time_holds(&SystemClock::new(rt)) {
-            times.add(holds)?;
-        }
-    }
-    Ok(times)
-}
-
-/// Prints how long the lock of a desk is held round what a worker does with a batch.
-fn print_hold_row<R, W: Write>(
-    rt: R,
-    alloc: Global,
-    output: &mut W,
-    attributes: usize,
-) -> Result<()>
-where
-    R: Wait + RandomSource + Clock + Copy + Drop,
-{
-    let times = time_holds(rt, alloc, attributes)?;
-    write!(
-        output,
-        "{BATCH} spans under the lock, {attributes} attributes: "
-    )?;
-    write_hold(output, "take", Spread::new(times.takes)?)?;
-    write_hold(output, ", settle", Spread::new(times.settles)?)?;
-    write_hold(output, ", settle as lost", Spread::new(times.losses)?)?;
-    write_hold(output, ", drop", Spread::new(times.drops)?)?;
-    writeln!(output)?;
-    Ok(())
-}
-
-/// Prints what spans took that found the queue of a desk full.
-fn print_full_row<R, W: Write>(
-    rt: R,
-    alloc: Global,
-    output: &mut W,
-    attributes: usize,
-) -> Result<()>
-where
-    R: Wait + RandomSource + Clock + Copy + Drop,
-{
-    let load = Load::at_once(FULL, attributes);
-    let mut pass = PlainPass::new(rt, alloc)?;
-    end_spans(&rt, alloc, load, &mut pass)?;
-    let mut spans = Vec::new(alloc);
-    for _round in 0..ROUNDS {
-        spans.push(end_spans(&rt, alloc, load, &mut pass)?.nanos / FULL)?;
-    }
-    write_full(output, attributes, median(spans)?)?;
+/// Writes how long a run of so many items took through something.
+fn write_run<W: Write>(output: &mut W, what: &str, items: usize, took: Took) -> Result<()> {
+    let (push, take, release, sum) = took;
+    write!(output, "{items} items through a {what}: pushed {push} ns, ")?;
+    writeln!(output, "taken {take} ns, let go {release} ns ({sum})")?;
     Ok(())
 }
 
@@ -255,50 +72,210 @@ fn print_ring_rows<W: Write>(
     )?;
     write_run(output, "deque", items, time_deque(clock, alloc, items)?)?;
     let (nanos, refused) = time_full_ring(clock, alloc, items)?;
-    write_refused(output, items, nanos, refused)?;
+    writeln!(
+        output,
+        "{items} items find a ring full: {nanos} ns ({refused})"
+    )?;
     Ok(())
 }
 
-/// Measures how long spans with so many attributes take, and prints it.
-fn print_attributes<R, W: Write>(
-    rt: R,
-    alloc: Global,
-    output: &mut W,
-    attributes: usize,
-) -> Result<()>
+/// What prints tables.
+#[derive(Drop)]
+pub struct Tables<R, W> {
+    /// The runtime.
+    pub rt: R,
+    /// The memory.
+    pub alloc: Global,
+    /// What is printed goes there.
+    pub output: W,
+}
+
+impl<R, W> Tables<R, W>
 where
     R: Threads + Wait + RandomSource + Clock + Copy + Send + Sync + 'static,
+    W: Write,
 {
-    print_plain_rows(rt, alloc, output, attributes)?;
-    print_full_row(rt, alloc, output, attributes)?;
-    print_hold_row(rt, alloc, output, attributes)?;
-    for threads in [1usize, 2, 4] {
-        print_row(rt, alloc, output, threads, Load::at_once(SPANS, attributes))?;
+    /// A round over a service whose exporter lets its batches go.
+    fn one_round(&self, threads: usize, load: Load) -> Result<Round> {
+        run_round(self.rt, self.alloc, CountingExporter::new(), threads, load)
     }
-    let load = Load::at_once(PAUSED_SPANS, attributes).pausing();
-    for threads in [1usize, 4] {
-        print_row(rt, alloc, output, threads, load)?;
+
+    /// What a batch of spans took of its thread into a desk under a plain mutex, and to be taken
+    /// from it again, in nanoseconds.
+    fn time_batch(&self, load: Load, pass: &mut PlainPass<R>) -> Result<(u64, u64)> {
+        let took = end_spans(&self.rt, self.alloc, load, pass)?;
+        let before = Instant::now(&self.rt)?;
+        pass.drain();
+        Ok((took.nanos, nanos_since(&self.rt, before)?))
     }
-    Ok(())
+
+    /// The same, so many times: each span's part.
+    fn time_batches(&self, load: Load, times: u64) -> Result<(u64, u64)> {
+        let mut pass = PlainPass::new(self.rt, self.alloc)?;
+        let (mut ends, mut whole) = (0u64, 0u64);
+        for _time in 0..times {
+            let (ended, drained) = self.time_batch(load, &mut pass)?;
+            ends = ends.saturating_add(ended);
+            whole = whole.saturating_add(ended).saturating_add(drained);
+        }
+        let spans = load.spans.saturating_mul(times).max(1);
+        Ok((ends / spans, whole / spans))
+    }
+
+    /// Prints what spans took on so many threads, in the middle one of some rounds; their ends, in
+    /// the middle one of as many in which each is timed, and the longest of all; and what became of
+    /// the spans of the others.
+    fn print_row(&mut self, threads: usize, load: Load) -> Result<()> {
+        let spans = load.spans.saturating_mul(threads as u64);
+        let (mut rounds, mut counts, mut longest) = (Rounds::new(self.alloc), Counts::none(), 0u64);
+        for _round in 0..ROUNDS {
+            let untimed = self.one_round(threads, load)?;
+            let timed = self.one_round(threads, load.timed())?;
+            let ends = Spread::new(timed.times.ends)?;
+            let span = untimed.times.nanos.checked_div(spans).unwrap_or(0);
+            rounds.add((span, ends.p50, ends.p999, 0))?;
+            longest = longest.max(ends.longest);
+            counts = counts.and(untimed.counts);
+        }
+        let (span, p50, p999, _) = rounds.middle()?;
+        load.write(&mut self.output, threads)?;
+        writeln!(
+            self.output,
+            "{span} ns a span, ends {p50} {p999} {longest} ns, {counts}"
+        )?;
+        Ok(())
+    }
+
+    /// Prints what spans took into a desk under a plain mutex, with and without the time in which
+    /// they are taken from it again, in the middle one of some rounds of so many spans.
+    fn print_plain_row(&mut self, load: Load, spans: u64) -> Result<()> {
+        let times = spans.checked_div(load.spans).unwrap_or(0);
+        let mut rounds = Rounds::new(self.alloc);
+        for _round in 0..ROUNDS {
+            let (span, whole) = self.time_batches(load, times)?;
+            rounds.add_two(span, whole)?;
+        }
+        let (span, whole) = rounds.middle_two()?;
+        let (at_a_time, how, attributes) = (load.spans, load.how(), load.attributes);
+        write!(
+            self.output,
+            "a plain desk, {at_a_time} {how}, {attributes} attributes: "
+        )?;
+        writeln!(
+            self.output,
+            "{span} ns a span, {whole} ns with its batches taken and settled"
+        )?;
+        Ok(())
+    }
+
+    /// Prints such rows: of a batch at a time, of as many spans as fill the queue, and of a batch
+    /// whose thread pauses after each burst.
+    fn print_plain_rows(&mut self, attributes: usize) -> Result<()> {
+        for at_a_time in [BATCH, FULL] {
+            let load = Load::at_once(at_a_time, attributes);
+            self.print_plain_row(load, SPANS)?;
+        }
+        let load = Load::at_once(BATCH, attributes).pausing();
+        self.print_plain_row(load, PAUSED_SPANS)
+    }
+
+    /// Prints how long the lock of a desk is held round what a worker does with a batch, many
+    /// times.
+    fn print_hold_row(&mut self, attributes: usize) -> Result<()> {
+        let load = Load::at_once(3 * BATCH, attributes);
+        let mut pass = PlainPass::new(self.rt, self.alloc)?;
+        let mut rounds = Rounds::new(self.alloc);
+        for _burst in 0..BURSTS {
+            end_spans(&self.rt, self.alloc, load, &mut pass)?;
+            if let Some(holds) = pass.time_holds(&SystemClock::new(self.rt)) {
+                rounds.add(holds)?;
+            }
+        }
+        let (take, settle, lose, drop) = rounds.spreads()?;
+        write!(
+            self.output,
+            "{BATCH} spans under the lock, {attributes} attributes: "
+        )?;
+        write_hold(&mut self.output, "take", take)?;
+        write_hold(&mut self.output, ", settle", settle)?;
+        write_hold(&mut self.output, ", settle as lost", lose)?;
+        write_hold(&mut self.output, ", drop", drop)?;
+        writeln!(self.output)?;
+        Ok(())
+    }
+
+    /// Prints what spans took that found the queue of a desk full.
+    fn print_full_row(&mut self, attributes: usize) -> Result<()> {
+        let load = Load::at_once(FULL, attributes);
+        let mut pass = PlainPass::new(self.rt, self.alloc)?;
+        end_spans(&self.rt, self.alloc, load, &mut pass)?;
+        let mut spans = Vec::new(self.alloc);
+        for _round in 0..ROUNDS {
+            spans.push(end_spans(&self.rt, self.alloc, load, &mut pass)?.nanos / FULL)?;
+        }
+        let span = median(spans)?;
+        writeln!(
+            self.output,
+            "a full desk, {attributes} attributes: {span} ns a span"
+        )?;
+        Ok(())
+    }
+
+    /// Measures how long spans with so many attributes take, and prints it.
+    fn print_attributes(&mut self, attributes: usize) -> Result<()> {
+        self.print_plain_rows(attributes)?;
+        self.print_full_row(attributes)?;
+        self.print_hold_row(attributes)?;
+        for threads in [1usize, 2, 4] {
+            self.print_row(threads, Load::at_once(SPANS, attributes))?;
+        }
+        let load = Load::at_once(PAUSED_SPANS, attributes).pausing();
+        for threads in [1usize, 4] {
+            self.print_row(threads, load)?;
+        }
+        Ok(())
+    }
+
+    /// Runs threads for a short time, and prints what became of their spans.
+    pub fn print_counts(&mut self) -> Result<()> {
+        for threads in [1usize, 2, 4] {
+            for attributes in [0usize, 5] {
+                let counts = self
+                    .one_round(threads, Load::at_once(FEW, attributes))?
+                    .counts;
+                writeln!(
+                    self.output,
+                    "{threads} threads, {attributes} attributes: {counts}"
+                )?;
+            }
+        }
+        Ok(())
+    }
 }
 
-/// Measures how long spans take, and prints it.
-pub fn print_times<R, W: Write>(rt: R, alloc: Global, output: &mut W) -> Result<()>
+impl<R, W> Tables<R, W>
 where
     R: Net<Listener = TcpListener, Stream = TcpStream> + CpuClock + Clock,
     R: Threads + Wait + RandomSource + Copy + Send + Sync + 'static,
+    W: Write,
 {
-    for items in [512usize, 65_536] {
-        print_ring_rows(&rt, alloc, output, items)?;
+    /// Measures how long spans take, and prints it.
+    pub fn print_times(&mut self) -> Result<()> {
+        for items in [512usize, 65_536] {
+            print_ring_rows(&self.rt, self.alloc, &mut self.output, items)?;
+        }
+        for attributes in [0usize, 5] {
+            self.print_attributes(attributes)?;
+            self.print_traced(attributes)?;
+        }
+        self.print_calls()?;
+        self.print_requests()?;
+        self.print_posts()?;
+        let share = idle_share(self.rt, self.alloc, WATCH_MS)?;
+        writeln!(
+            self.output,
+            "an idle worker: {share} millionths of a processor"
+        )?;
+        Ok(())
     }
-    for attributes in [0usize, 5] {
-        print_attributes(rt, alloc, output, attributes)?;
-        print_traced(rt, alloc, output, attributes)?;
-    }
-    print_calls(&rt, alloc, output)?;
-    print_requests(rt, alloc, output)?;
-    print_posts(rt, alloc, output)?;
-    let share = idle_share(rt, alloc, CountingExporter::new(), WATCH_MS)?;
-    writeln!(output, "an idle worker: {share} millionths of a processor")?;
-    Ok(())
 }

@@ -1,4 +1,5 @@
 //! Threads over one service.
+use crate::counting::CountingExporter;
 use crate::load::{Load, Times, end_spans};
 use anyhow::Result;
 use batch_desk::Totals;
@@ -7,11 +8,11 @@ use batch_service::{Done, ServicePass, Work, serve};
 use drop_ledger::NewestNames;
 use span_exporter::Exporter;
 use std::alloc::Global;
-use std::io;
 use std::random::RandomSource;
 use std::sync::Wait;
 use std::thread::{self, Threads};
 use std::time::{Clock, CpuClock, Duration};
+use std::{fmt, io};
 
 /// What became of spans.
 #[derive(Clone, Copy)]
@@ -47,6 +48,13 @@ impl Counts {
         }
     }
 
+    /// How many were handed or dropped, or are left.
+    pub fn named(self) -> u64 {
+        self.handed
+            .saturating_add(self.dropped)
+            .saturating_add(self.left)
+    }
+
     /// By what a processor counted.
     fn new(totals: Totals) -> Counts {
         let drops = totals.dropped;
@@ -58,6 +66,16 @@ impl Counts {
             dropped: drops.queue_full.saturating_add(by_worker),
             left: totals.left,
         }
+    }
+}
+
+impl fmt::Display for Counts {
+    fn fmt<W: fmt::Write>(&self, f: &mut fmt::Formatter<W>) -> fmt::Result {
+        let (handed, lost, dropped, left) = (self.handed, self.lost, self.dropped, self.left);
+        write!(
+            f,
+            "{handed} handed, {lost} lost, {dropped} dropped, {left} left"
+        )
     }
 }
 
@@ -131,10 +149,9 @@ impl<R: CpuClock + Clock> Work for Sleeps<R> {
 
 /// The processor time that the worker of a service takes while nothing ends, in millionths of the
 /// time that it is watched, which is so many milliseconds.
-pub fn idle_share<R, E>(rt: R, alloc: Global, exporter: E, watch_ms: u64) -> Result<u64>
+pub fn idle_share<R>(rt: R, alloc: Global, watch_ms: u64) -> Result<u64>
 where
     R: Threads + Wait + RandomSource + CpuClock + Clock + Copy + Send + Sync + 'static,
-    E: Exporter + Send + Drop + 'static,
 {
     let names = NewestNames::new(alloc, 0)?;
     let config = BatchConfig::default();
@@ -142,6 +159,7 @@ where
         rt,
         millis: watch_ms,
     };
+    let exporter = CountingExporter::new();
     let Done { outputs, .. } = serve(rt, alloc, exporter, names, config, 1, &sleeps)?;
     let mut nanos = 0u128;
     for used in outputs {

@@ -1,7 +1,7 @@
 //! What a span takes by the calls of a thread's tracer, beside the same by bare calls.
-use crate::figures::{median, nanos_since};
+use crate::figures::{Rounds, nanos_since};
 use crate::load::{ATTRIBUTES, new_provider, set_lent};
-use crate::rows::write_traced;
+use crate::tables::Tables;
 use anyhow::Result;
 use batch_processor::SystemClock;
 use otlp_sampler::AlwaysOn;
@@ -51,64 +51,48 @@ fn end_bare<R: Clock>(
     Ok(())
 }
 
-/// How long a round takes by bare calls, in nanoseconds a span.
-fn time_bare<R>(
-    rt: R,
-    alloc: Global,
-    tracer: &Tracer<'_, AlwaysOn>,
-    attributes: usize,
-) -> Result<u64>
-where
-    R: RandomSource + Clock + Copy,
-{
-    let mut rng: StdRng = make_rng(&rt)?;
-    let mut pass = BodyPass::new(alloc, SPANS)?;
-    let clock = SystemClock::new(rt);
-    let start = Instant::now(&rt)?;
-    end_bare(alloc, &clock, &mut rng, tracer, attributes, &mut pass)?;
-    let nanos = nanos_since(&rt, start)?;
-    Ok(nanos / SPANS as u64)
-}
-
-/// The same by the calls of a thread's tracer.
-fn time_traced<R>(
-    rt: R,
-    alloc: Global,
-    tracer: &Tracer<'_, AlwaysOn>,
-    attributes: usize,
-) -> Result<u64>
-where
-    R: RandomSource + Clock + Copy,
-{
-    let rng: StdRng = make_rng(&rt)?;
-    let mut pass = BodyPass::new(alloc, SPANS)?;
-    let clock = SystemClock::new(rt);
-    let start = Instant::now(&rt)?;
-    end_traced(
-        &mut ThreadTracer::new(tracer, alloc, rng, clock, &mut pass),
-        attributes,
-    );
-    let nanos = nanos_since(&rt, start)?;
-    Ok(nanos / SPANS as u64)
-}
-
-/// Prints how long a span takes in each way, in the middle one of some rounds, which take turns.
-pub fn print_traced<R, W: Write>(
-    rt: R,
-    alloc: Global,
-    output: &mut W,
-    attributes: usize,
-) -> Result<()>
-where
-    R: RandomSource + Clock + Copy,
-{
-    let provider = new_provider(alloc)?;
-    let tracer = provider.tracer(Arc::new(alloc, Scope::named(alloc, "checkout")?)?);
-    let (mut bare, mut traced) = (Vec::new(alloc), Vec::new(alloc));
-    for _round in 0..ROUNDS {
-        bare.push(time_bare(rt, alloc, &tracer, attributes)?)?;
-        traced.push(time_traced(rt, alloc, &tracer, attributes)?)?;
+impl<R: RandomSource + Clock + Copy, W: Write> Tables<R, W> {
+    /// How long a round takes by bare calls, in nanoseconds a span.
+    fn time_bare(&self, tracer: &Tracer<'_, AlwaysOn>, attributes: usize) -> Result<u64> {
+        let mut rng: StdRng = make_rng(&self.rt)?;
+        let mut pass = BodyPass::new(self.alloc, SPANS)?;
+        let clock = SystemClock::new(self.rt);
+        let start = Instant::now(&self.rt)?;
+        end_bare(self.alloc, &clock, &mut rng, tracer, attributes, &mut pass)?;
+        let nanos = nanos_since(&self.rt, start)?;
+        Ok(nanos / SPANS as u64)
     }
-    write_traced(output, attributes, median(bare)?, median(traced)?)?;
-    Ok(())
+
+    /// The same by the calls of a thread's tracer.
+    fn time_traced(&self, tracer: &Tracer<'_, AlwaysOn>, attributes: usize) -> Result<u64> {
+        let rng: StdRng = make_rng(&self.rt)?;
+        let mut pass = BodyPass::new(self.alloc, SPANS)?;
+        let clock = SystemClock::new(self.rt);
+        let start = Instant::now(&self.rt)?;
+        end_traced(
+            &mut ThreadTracer::new(tracer, self.alloc, rng, clock, &mut pass),
+            attributes,
+        );
+        let nanos = nanos_since(&self.rt, start)?;
+        Ok(nanos / SPANS as u64)
+    }
+
+    /// Prints how long a span takes in each way, in the middle one of some rounds, which take
+    /// turns.
+    pub fn print_traced(&mut self, attributes: usize) -> Result<()> {
+        let provider = new_provider(self.alloc)?;
+        let tracer = provider.tracer(Arc::new(self.alloc, Scope::named(self.alloc, "checkout")?)?);
+        let mut rounds = Rounds::new(self.alloc);
+        for _round in 0..ROUNDS {
+            let bare = self.time_bare(&tracer, attributes)?;
+            rounds.add_two(bare, self.time_traced(&tracer, attributes)?)?;
+        }
+        let (bare, traced) = rounds.middle_two()?;
+        write!(
+            self.output,
+            "a span, {attributes} attributes: bare calls {bare} ns, "
+        )?;
+        writeln!(self.output, "a thread's tracer {traced} ns")?;
+        Ok(())
+    }
 }

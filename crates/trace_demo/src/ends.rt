@@ -1,18 +1,19 @@
 //! The spans that threads end.
 
 use crate::live::write_counts;
-use batch_processor::{Clock, SystemClock};
+use batch_processor::SystemClock;
 use batch_service::{NamingPass, ServicePass, Work};
 use drop_ledger::NewestNames;
 use http_exporter::FailureWatch;
 use otlp_sampler::AlwaysOn;
 use otlp_span::{Kind, Resource, Scope, SpanData, SpanLimits};
-use rand_core::SeedableRng;
+use rand_core::{Rng, SeedableRng};
 use rand_pcg::Pcg64;
 use std::alloc::Global;
 use std::io::Eprint;
 use std::sync::{Arc, Wait};
 use std::time;
+use thread_tracer::{ThreadTrace, ThreadTracer};
 use trace_api::{EndPass, Ended, Provider, Tracer};
 
 /// How many parts a thread's share has, after each of which the counts may be shown.
@@ -45,6 +46,16 @@ impl EndedSpans {
             self.numbers.push(number).ok()?;
         }
         Some(())
+    }
+
+    /// Starts a span, ends it, and adds it if it was recorded. `None` where memory was refused.
+    fn end_span(&mut self, trace: &mut impl ThreadTrace) -> Option<()> {
+        let span = trace.start("demo", Kind::Internal);
+        let number = u64::from_be_bytes(span.context().span.0);
+        match trace.end(span) {
+            Ended::Queued(_) | Ended::Dropped(..) => self.add(number),
+            _ => Some(()),
+        }
     }
 
     /// Of all threads. `None` where memory was refused to one of them.
@@ -83,19 +94,34 @@ impl<R: time::Clock + Eprint + Wait + Copy> Ends<R> {
         (self.spans / threads).saturating_add(more)
     }
 
+    /// Ends so many spans on a pass. `None` where memory was refused.
+    fn end_spans<P>(&self, maker: &mut Maker<'_>, pass: &mut P, spans: u64) -> Option<()>
+    where
+        P: EndPass<SpanData>,
+    {
+        let rng = Pcg64::seed_from_u64(maker.rng.next_u64());
+        let clock = SystemClock::new(self.rt);
+        let mut trace = ThreadTracer::new(&maker.tracer, self.alloc, rng, clock, pass);
+        for _ in 0..spans {
+            maker.ended.end_span(&mut trace)?;
+        }
+        if trace.refused().not_started > 0 {
+            return None;
+        }
+        Some(())
+    }
+
     /// Ends so many spans. `None` where memory was refused.
     fn end_part<P>(&self, maker: &mut Maker<'_>, pass: &mut P, spans: u64) -> Option<()>
     where
         P: ServicePass,
     {
-        let clock = SystemClock::new(self.rt);
         if self.is_soak {
-            return maker.end_spans(&clock, pass, spans);
+            return self.end_spans(maker, pass, spans);
         }
         // The names of spans that are dropped are freed, on this thread too.
         let names = NewestNames::new(self.alloc, 0).ok()?;
-        let mut pass = NamingPass::new(pass, names);
-        maker.end_spans(&clock, &mut pass, spans)
+        self.end_spans(maker, &mut NamingPass::new(pass, names), spans)
     }
 
     /// Ends these spans, and shows the counts after each part of them, where they are asked for.
@@ -133,7 +159,6 @@ impl<R: time::Clock + Eprint + Wait + Copy> Work for Ends<R> {
         let provider = Provider::new(AlwaysOn, resource, SpanLimits::default());
         let scope = Scope::named(alloc, "trace-demo").ok()?;
         let mut maker = Maker {
-            alloc,
             rng: Pcg64::seed_from_u64(self.seed.wrapping_add(thread)),
             tracer: provider.tracer(Arc::new(alloc, scope).ok()?),
             ended: EndedSpans::new(alloc, self.is_soak),
@@ -151,34 +176,7 @@ impl<R: time::Clock + Eprint + Wait + Copy> Work for Ends<R> {
 /// Makes the spans of a thread.
 #[derive(Drop)]
 struct Maker<'a> {
-    alloc: Global,
     rng: Pcg64,
     tracer: Tracer<'a, AlwaysOn>,
     ended: EndedSpans,
-}
-
-impl Maker<'_> {
-    /// Starts so many spans, and ends each on a pass. `None` where memory was refused.
-    fn end_spans<P>(&mut self, clock: &impl Clock, pass: &mut P, spans: u64) -> Option<()>
-    where
-        P: EndPass<SpanData>,
-    {
-        for _ in 0..spans {
-            self.end_span(clock, pass)?;
-        }
-        Some(())
-    }
-
-    /// The same of one span.
-    fn end_span<P: EndPass<SpanData>>(&mut self, clock: &impl Clock, pass: &mut P) -> Option<()> {
-        let (alloc, kind, at) = (self.alloc, Kind::Internal, clock.now());
-        let tracer = &self.tracer;
-        let started = tracer.start_copied(alloc, &mut self.rng, None, "demo", kind, at);
-        let mut span = started.ok()?;
-        let number = u64::from_be_bytes(span.context().span.0);
-        match span.end(pass, clock.now()) {
-            Ended::Queued(_) | Ended::Dropped(..) => self.ended.add(number),
-            _ => Some(()),
-        }
-    }
 }

@@ -10,8 +10,8 @@ pub use Rattle.model_span.specs.Starts
 pub use Rattle.model_span.specs.Dropped
 pub use Rattle.model_desk.specs.Desks
 pub use Rattle.model_desk.specs.Queue
-pub use Rattle.model_retry.specs.Retries
-pub use Rattle.model_retry.specs.Waits
+pub use Rattle.model_desk.specs.Retries
+pub use Rattle.model_desk.specs.Waits
 pub use Rattle.law_desk.specs.Queues
 pub use Rattle.law_run.specs.Laws as RunLaws
 pub use Rattle.model_export.specs.Export
@@ -54,6 +54,8 @@ pub use Rattle.batch_desk.specs.Views as DeskViews
 pub use Rattle.retry_core.specs.Retries as RetryViews
 pub use Rattle.model_processor.specs.Passes
 pub use Rattle.model_processor.specs.PassClauses as PassClauses
+pub use Rattle.model_processor.specs.Holders as AccountHolders
+pub use Rattle.processor_account.specs.Views as AccountViews
 pub use Rattle.simple_processor.specs.Accounts as PassAccounts
 pub use Rattle.simple_processor.specs.Bodies as PassBodies
 pub use Rattle.simple_processor.specs.Kept as PassKept

@@ -9,9 +9,9 @@ use Rattle.model_span.specs.Sampling.{SamplerMeaning}
 use Rattle.model_span.specs.Dropped.{Reason as model-Reason, too_large as model-too_large}
 use Rattle.model_span.specs.Spans.{SpanData}
 use Rattle.model_export.specs.Export.{LacksBody, groups, body_length}
-use Rattle.model_retry.specs.Retries as retries
-use Rattle.model_retry.specs.Retries.{delivered, Next, Fate, fate_of}
-use Rattle.model_retry.specs.Waits.{RetryConfig, next_after}
+use Rattle.model_desk.specs.Retries as retries
+use Rattle.model_desk.specs.Retries.{delivered, Next, Fate, fate_of}
+use Rattle.model_desk.specs.Waits.{RetryConfig, next_after}
 use Rattle.model_desk.specs.Queue as queue
 use Rattle.model_desk.specs.Queue.{DeskEvent, last_spans, last_batch, stage, not_out, in_hand}
 use Rattle.model_desk.specs.Queue.{with_exporter}

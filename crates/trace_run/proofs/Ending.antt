@@ -12,7 +12,7 @@ use Rattle.model_span.specs.Sampling.{SamplerMeaning, is_sampled}
 use Rattle.model_span.specs.Spans.{Call, SpanData, end, is_end, with_ticket}
 use Rattle.model_span.specs.Starts.{StartedSpan, exported_span}
 use Rattle.model_span.specs.Dropped.{queue_full}
-use Rattle.model_retry.specs.Retries.{delivered}
+use Rattle.model_desk.specs.Retries.{delivered}
 use Rattle.model_desk.specs.Queue as queue
 use Rattle.model_desk.specs.Queue.{DeskEvent, last_spans, size_of_take}
 use Rattle.model_desk.specs.Desks.{Desk, IsDesk}

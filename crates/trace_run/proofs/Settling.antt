@@ -1,7 +1,7 @@
 -- When a batch that is out can be settled.
 use Rattle.std.proofs.Common.{true, length, sym, ap}
 use Rattle.std.specs.Prelude.{option_map}
-use Rattle.model_retry.specs.Retries.{Fate}
+use Rattle.model_desk.specs.Retries.{Fate}
 use Rattle.model_desk.specs.Desks.{Desk, OutBatch, out_size}
 use Rattle.batch_desk.specs.Batch.{BatchView}
 use Rattle.batch_desk.specs.Desk.{CanSettle, IsOut}

@@ -21,7 +21,7 @@ use Rattle.model_run.specs.Headline.{pending_as, pending_after, attempt_by}
 use Rattle.model_run.proofs.More.{is_shut, shut-more, ended-open, ended-shut, ended-none}
 use Rattle.model_run.proofs.More.{ended-some, events-more, progress-none, quiet-attempts}
 use Rattle.model_run.proofs.More.{last_attempt-none, answers-more}
-use Rattle.model_retry.specs.Retries.{delivered}
+use Rattle.model_desk.specs.Retries.{delivered}
 use Rattle.trace_run.specs.Table.{IsTable, TableWith, TakesStep, answer_to_start, answer_to_call}
 use Rattle.trace_run.specs.Table.{span_numbered}
 use Rattle.trace_run.specs.Out.{Out, shown, IsTied}

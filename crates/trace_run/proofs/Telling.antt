@@ -8,11 +8,11 @@ use Rattle.rand_core.specs.Stream.{Stream}
 use Rattle.model_span.specs.Sampling.{SamplerMeaning, is_sampled}
 use Rattle.model_span.specs.Spans.{Call, end, is_end}
 use Rattle.model_span.specs.Starts.{StartedSpan, exported_span}
-use Rattle.model_retry.specs.Retries.{Outcome}
+use Rattle.model_desk.specs.Retries.{Outcome}
 use Rattle.model_desk.specs.Queue.{DeskEvent, batch_spans, last_batch, last_spans}
 use Rattle.model_desk.specs.Desks.{Desk, is_due}
 use Rattle.model_run.specs.Runs.{Answer, Answered, desk_events}
-use Rattle.model_retry.specs.Waits.{RetryConfig}
+use Rattle.model_desk.specs.Waits.{RetryConfig}
 use Rattle.model_run.specs.Answers.{RunConfig, last_attempt, take_answer}
 use Rattle.model_run.specs.Headline.{attempt_by}
 use Rattle.batch_desk.specs.Batch.{BatchView}

@@ -6,7 +6,7 @@ use Rattle.std.specs.List.{flat_map}
 use Rattle.hex.specs.Hex.{encode_lower}
 use Rattle.model_span.specs.Dropped.{Entry, reason_word}
 use Rattle.model_span.specs.Spans.{is_end}
-use Rattle.model_retry.specs.Retries.{Next, Cause}
+use Rattle.model_desk.specs.Retries.{Next, Cause}
 use Rattle.model_run.specs.Steps.{Step}
 use Rattle.model_run.specs.Runs.{Ended, Answer, started, no_randomness, no_span, out_of_memory}
 use Rattle.model_run.specs.Runs.{done, ended, taken, encoded, sent, early, replied, Answered}

@@ -5,11 +5,11 @@ use Rattle.model_message.specs.Reading.{Reads}
 use Rattle.model_message.specs.Messages.{body_meaning}
 use Rattle.model_span.specs.Spans.{SpanData}
 use Rattle.model_export.specs.Export.{LacksBody, groups, body_length, grouped_triples}
-use Rattle.model_retry.specs.Retries as retries
-use Rattle.model_retry.specs.Retries.{Fate, fate_of}
+use Rattle.model_desk.specs.Retries as retries
+use Rattle.model_desk.specs.Retries.{Fate, fate_of}
 use Rattle.model_desk.specs.Queue as desk
 use Rattle.model_desk.specs.Desks.{Desk, Does, DropsSpans, SettlesSpans, TakesSpans}
-use Rattle.model_retry.specs.Waits.{RetryConfig, IsRetryConfig, next_after}
+use Rattle.model_desk.specs.Waits.{RetryConfig, IsRetryConfig, next_after}
 use Rattle.otlp_proto.specs.Bodies.{body_bytes}
 use Rattle.otlp_span.specs.Dropped.{reason_view}
 use Rattle.otlp_span.specs.declared.reason.Reason.{Reason}

@@ -1,7 +1,7 @@
 -- What a run leaves, and what is left of it once it is closed. (profile)
 use Rattle.std.specs.Prelude.{List, Option, Some, None, if◌then◌else◌}
 use Rattle.model_span.specs.Dropped as dropped
-use Rattle.model_retry.specs.Retries as retries
+use Rattle.model_desk.specs.Retries as retries
 use Rattle.model_desk.specs.Desks.{Desk, after_settled}
 use Rattle.batch_desk.specs.Desk.{after_drop}
 use Rattle.rand_core.specs.Stream.{Stream}

@@ -6,7 +6,7 @@ use Rattle.std.specs.List.{list_any, AllByRecursion}
 use Rattle.rand_core.specs.Stream.{Stream}
 use Rattle.model_span.specs.Sampling.{SamplerMeaning}
 use Rattle.model_desk.specs.Desks.{Desk, IsDesk}
-use Rattle.model_retry.specs.Waits.{RetryConfig}
+use Rattle.model_desk.specs.Waits.{RetryConfig}
 use Rattle.model_run.specs.Steps.{is_shutdown}
 use Rattle.model_run.specs.History.{Setup}
 use Rattle.model_run.specs.Runs.{Answer, Answered, span_steps, ended_by, desk_events}

@@ -2,7 +2,7 @@
 ghost use Rattle.std.specs.Prelude.{◌≡◌, ◌<◌, ◌≤◌, ◌+◌, ℕ, IfOk, IsErrOf, length, false};
 ghost use Rattle.model_export.specs.Export.{groups, body_length};
 ghost use Rattle.model_desk.specs.Desks.{DropsSpans};
-ghost use Rattle.model_retry.specs.Waits.{IsRetryConfig, RetryConfig};
+ghost use Rattle.model_desk.specs.Waits.{IsRetryConfig, RetryConfig};
 ghost use Rattle.model_run.specs.Answers.{take_answer};
 ghost use Rattle.otlp_proto.specs.Bodies.{reason_of};
 ghost use Rattle.otlp_span.specs.Dropped.{reason_view};

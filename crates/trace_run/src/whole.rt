@@ -1,6 +1,6 @@
 //! Runs of whole programs.
 ghost use Rattle.std.specs.Prelude.{◌≡◌, IfOk, OnErr, length};
-ghost use Rattle.model_retry.specs.Waits.{IsRetryConfig};
+ghost use Rattle.model_desk.specs.Waits.{IsRetryConfig};
 ghost use Rattle.span_ring.specs.SpanRing.{IsRingSize};
 ghost use Rattle.model_run.specs.Answers.{AreAnswers, desk_after};
 ghost use Rattle.model_run.specs.Headline.{pending_after};

@@ -5,6 +5,7 @@ ghost use Rattle.batch_processor.specs.declared.config.BatchConfig.{BatchConfig 
 ghost use Rattle.batch_service.specs.Service.{EndsServed, new_service, origin_of};
 ghost use Rattle.batch_service.specs.declared.fault.StartFault.TheVariants as faults;
 ghost use Rattle.batch_service.specs.declared.service.TheConstants.{MAX_THREADS};
+ghost use Rattle.otel_settings.specs.Settings.{request_timeout};
 ghost use Rattle.otlp_span.specs.Parts.{limits_view};
 ghost use Rattle.otlp_span.specs.Resources.{overlaid, service_resource};
 ghost use Rattle.otlp_value.specs.Value.{attributes_view};
@@ -80,6 +81,9 @@ impl ServiceSetup {
         ensures queue { IfOk result (λ setup.
             config_view setup.config.desk ≡ config_view settings.desk) }
         ensures target { IfOk result (λ setup. setup.target ≡ settings.target) }
+        ensures timeout { IfOk result (λ setup.
+            setup.timeout_ms ≡ request_timeout settings.timeout_ms) }
+        ensures faults { IfOk result (λ setup. setup.faults.items ≡ settings.faults.items) }
         ensures is_off { IfOk result (λ setup. setup.is_off ≡ settings.disabled) }
     {
         let timeout_ms = settings.request_timeout_ms();
@@ -117,6 +121,8 @@ impl ServiceSetup {
         ensures provider { result.provider ≡ self.provider }
         ensures queue { result.config ≡ record self.config { retry = retry } }
         ensures target { result.target ≡ self.target }
+        ensures timeout { result.timeout_ms ≡ self.timeout_ms }
+        ensures faults { result.faults.items ≡ self.faults.items }
         ensures is_off { result.is_off ≡ self.is_off }
     {
         self.config.retry = retry;

@@ -23,7 +23,8 @@ use Rattle.otlp_http.specs.Replies.{framing_of}
 use Rattle.http_wire.specs.Bodies.{IsBody}
 use Rattle.http_wire.specs.Fields.{NameAndValue, IsTaken, retry_after, values_of}
 use Rattle.otlp_http.specs.Heads.{fields_of, IsHeadText, IsInterim}
-use Rattle.otlp_http.specs.HeadLaws.{head_ends}
+use Rattle.http_wire.proofs.PlaceLemmas.{due_ends}
+use Rattle.otlp_http.specs.HeadLaws.{head_due}
 use Rattle.worked_http.specs.Replied.{AreReply, usual}
 
 -- Both parts of a conjunction that is true are true.
@@ -183,7 +184,7 @@ line_feed_in (b ∷ front) rest =
 -- A text without a line feed has no head of a response at its front.
 pub no_line : (text : List ℕ) → list_any is_line_feed text ≡ false → HasNoResponse text
 no_line text none h rest reads =
-    let ends = head_ends h in
+    let ends = due_ends (print_response h) (head_due h reads.0) in
     false≢true (sym none ∙ ap (list_any is_line_feed) (reads.1 ∙ ap (λ t. t ++ rest) ends.1)
     ∙ line_feed_in ends.0 rest)
 

@@ -18,7 +18,8 @@ use Rattle.http_wire.specs.Fields.{KeepsFields}
 use Rattle.otlp_serve.specs.RequestHeads.{request_fields}
 use Rattle.otlp_serve.specs.declared.fault.PostFault.TheVariants.{Body}
 use Rattle.otlp_serve.specs.Posts.{ComesWith, HttpPost}
-use Rattle.otlp_serve.specs.HeadLaws.{head_ends}
+use Rattle.http_wire.proofs.PlaceLemmas.{due_ends}
+use Rattle.otlp_serve.specs.HeadLaws.{head_due}
 use Rattle.worked_http.specs.Replied.{usual}
 use Rattle.worked_http.specs.Posted.{under, AreNoPost, ArePost}
 use Rattle.worked_http.proofs.Heads.{both, all_of, is_field, field_is, is_taken, all_taken}
@@ -140,6 +141,6 @@ one_field name value = record {
 -- A text without a line feed has no head of a request at its front.
 pub no_line : (text : List ℕ) → list_any is_line_feed text ≡ false → HasNoRequest text
 no_line text none h rest reads =
-    let ends = head_ends h in
+    let ends = due_ends (print_request h) (head_due h reads.0) in
     false≢true (sym none ∙ ap (list_any is_line_feed) (reads.1 ∙ ap (λ t. t ++ rest) ends.1)
     ∙ line_feed_in ends.0 rest)

@@ -5,3 +5,4 @@ pub mod Posted
 pub mod Replied
 pub mod OtherRules
 pub mod TraceIds
+pub mod Shops

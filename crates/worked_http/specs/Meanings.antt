@@ -4,7 +4,7 @@ use Rattle.std.specs.Str.{is_utf8, chars}
 use lib.Utf8.{encode}
 use Rattle.model_message.specs.Wire.{septets}
 use Rattle.model_message.specs.Messages.{meaning}
-use Rattle.model_retry.specs.Retries.{Outcome}
+use Rattle.model_desk.specs.Retries.{Outcome}
 use Rattle.otlp_http.specs.Outcomes.{outcome_of, outcome_of_body}
 
 -- what a body means that was taken, in a reply with a status from 200 to 299

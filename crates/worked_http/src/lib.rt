@@ -3,6 +3,8 @@
 //!
 //! - Requests and replies of OTLP over HTTP (crates `http_wire`, `otlp_http` and `otlp_serve`), and
 //!   the context of a trace in a request (`trace_context`).
+//! - Requests with spans (`http_client`, `traced_http`): their texts, what their spans say, and the
+//!   queries of URLs without their secrets.
 //! - Settings, the texts of resource attributes and of headers (`otel_settings`).
 //! - Sampling by a ratio (`otlp_sampler`): thresholds, trace ids and texts.
 //!
@@ -11,6 +13,7 @@
 #![tactic(auto)]
 
 pub mod chunks;
+pub mod client;
 pub mod contexts;
 pub mod devices;
 pub mod fields;
@@ -18,9 +21,11 @@ pub mod headers;
 pub mod outcomes;
 pub mod places;
 pub mod posts;
+pub mod queries;
 pub mod ratios;
 pub mod replies;
 pub mod requests;
 pub mod resources;
+pub mod server;
 pub mod settings;
 pub mod targets;

@@ -1,8 +1,8 @@
 //! What replies mean for the batch that was sent (OTLP Specification, "OTLP/HTTP Response").
 
 ghost use Rattle.std.specs.Prelude.{◌≡◌, ◌∷◌, ◌++◌, [], Err, None, Ok, Some, pos, replicate};
-ghost use Rattle.model_retry.specs.Retries.{bad, delivered, later, no_reply, seconds};
-ghost use Rattle.model_retry.specs.Retries.Outcome.{partial, refused};
+ghost use Rattle.model_desk.specs.Retries.{bad, delivered, later, no_reply, seconds};
+ghost use Rattle.model_desk.specs.Retries.Outcome.{partial, refused};
 ghost use Rattle.retry_core.specs.declared.outcome.RetryAfter.TheVariants.{Seconds};
 ghost use Rattle.http_wire.specs.declared.fault.HttpFault.TheVariants as faults;
 ghost use Rattle.otlp_http.specs.Outcomes.{outcome_of, outcome_of_body};

@@ -2,7 +2,7 @@
 use Rattle.std.proofs.Common.{refl, ◌==◌, List, [], ◌∷◌, ◌++◌, length, drop, ℕ, if◌then◌else◌}
 use Rattle.std.specs.List.{list_any}
 use Rattle.model_span.specs.Spans.{first_or}
-use Rattle.model_retry.specs.Retries.{Outcome}
+use Rattle.model_desk.specs.Retries.{Outcome}
 use Rattle.model_run.specs.Steps.{Step}
 use Rattle.model_run.specs.Runs.{Answered}
 use Rattle.model_run.specs.Answers.{RunConfig, Given, answer_to, AreAnswers}

@@ -4,8 +4,8 @@
 -- late.
 use Rattle.std.specs.Prelude.{ℕ, List, [], ◌∷◌, Option, Some, None, false}
 use Rattle.model_span.specs.Dropped.{Reason}
-use Rattle.model_retry.specs.Retries.{Outcome, later, Fate}
-use Rattle.model_retry.specs.Waits.{RetryConfig}
+use Rattle.model_desk.specs.Retries.{Outcome, later, Fate}
+use Rattle.model_desk.specs.Waits.{RetryConfig}
 use Rattle.worked_run.specs.Histories.{named, span_at}
 use Rattle.model_processor.specs.Passes.{PassAccount, Drop, accepted, dropped}
 use Rattle.model_processor.specs.Worker.{WorkerAccount, OutBatch, settled}

@@ -3,7 +3,7 @@ use Rattle.std.specs.Prelude.{ℕ, ◌+◌, List, [], ◌∷◌, ◌++◌, map, 
 use Rattle.std.specs.Prelude.{None, Some}
 use Rattle.model_span.specs.Spans.{internal, unset, SpanData}
 use Rattle.model_span.specs.Dropped.{Reason, Entry}
-use Rattle.model_retry.specs.Retries.{Fate}
+use Rattle.model_desk.specs.Retries.{Fate}
 use Rattle.model_desk.specs.Queue.{DeskEvent, queued, full, flush, taken, handed, settled}
 use Rattle.model_desk.specs.Queue.{waiting_spans, batch_spans, ledger_entries, popped_entries}
 use Rattle.model_desk.specs.Desks.{DeskConfig, OutBatch, Desk, desk_of, is_due, is_flushed}

@@ -2,7 +2,7 @@
 -- Response Codes, OTLP/HTTP Throttling)
 use Rattle.std.specs.Prelude.{ℕ, List, [], ◌∷◌, ◌++◌, Option, Some, map}
 use Rattle.model_span.specs.Spans.{SpanData}
-use Rattle.model_retry.specs.Retries.{Outcome, Next, later, seconds, again}
+use Rattle.model_desk.specs.Retries.{Outcome, Next, later, seconds, again}
 use Rattle.model_desk.specs.Queue.{DeskEvent, handed_spans}
 use Rattle.model_desk.specs.Desks.{Desk}
 use Rattle.law_desk.specs.Queues.{places}

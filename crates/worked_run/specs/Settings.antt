@@ -1,7 +1,7 @@
 -- Settings of retries, and what is asked of them.
 use Rattle.std.specs.Prelude.{ℕ, Some}
-use Rattle.model_retry.specs.Retries.{RetryAfter, later, no_reply, Next}
-use Rattle.model_retry.specs.Waits.{RetryConfig, next_after}
+use Rattle.model_desk.specs.Retries.{RetryAfter, later, no_reply, Next}
+use Rattle.model_desk.specs.Waits.{RetryConfig, next_after}
 
 -- five attempts, waits of at most 1 second first and of at most 30 seconds
 abbrev pub usual : RetryConfig

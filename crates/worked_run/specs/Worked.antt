@@ -16,11 +16,11 @@ use Rattle.model_span.specs.Spans.{default_limits, internal, unset, Context, Cal
 use Rattle.model_span.specs.Spans.{SpanData, first_or, span}
 use Rattle.model_span.specs.Starts.{Ids, started_span, ids_of, ids_words}
 use Rattle.model_export.specs.Export.{groups, body_length}
-use Rattle.model_retry.specs.Retries.{Outcome, no_reply, Next}
+use Rattle.model_desk.specs.Retries.{Outcome, no_reply, Next}
 use Rattle.model_desk.specs.Queue.{DeskEvent, batch_spans}
 use Rattle.model_desk.specs.Desks.{DeskConfig, Desk, desk_of}
 use Rattle.law_desk.specs.Queues.{places}
-use Rattle.model_retry.specs.Waits.{RetryConfig}
+use Rattle.model_desk.specs.Waits.{RetryConfig}
 use Rattle.model_run.specs.Steps.{Parent, root, Step}
 use Rattle.model_run.specs.History.{Setup, start_results_after}
 use Rattle.model_run.specs.Runs.{Answer, sent, Answered, ended_by, desk_events}

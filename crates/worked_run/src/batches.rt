@@ -4,8 +4,8 @@
 ghost use Rattle.std.specs.Prelude.{◌≡◌, [], ◌∷◌, ◌++◌, pos, Some, None};
 ghost use Rattle.model_span.specs.Dropped.{encode_memory, too_large, refused, bad_reply, given_up};
 ghost use Rattle.model_span.specs.Sampling.{always_on};
-ghost use Rattle.model_retry.specs.Retries.{Outcome, later, no_reply, bad, seconds, Next, give_up};
-ghost use Rattle.model_retry.specs.Retries.{Cause, attempts};
+ghost use Rattle.model_desk.specs.Retries.{Outcome, later, no_reply, bad, seconds, Next, give_up};
+ghost use Rattle.model_desk.specs.Retries.{Cause, attempts};
 ghost use Rattle.model_run.specs.Steps.{Step};
 ghost use Rattle.model_run.specs.Runs.{Answer, taken, encoded, sent, replied, nothing};
 ghost use Rattle.worked_run.specs.Worked.{queue_of, once_of, bodies_of, run_with, first, child};

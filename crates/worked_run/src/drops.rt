@@ -4,7 +4,7 @@
 ghost use Rattle.std.specs.Prelude.{◌≡◌, [], ◌∷◌, ◌++◌, pos, None, true, false};
 ghost use Rattle.model_span.specs.Dropped.{queue_full, too_large, encode_memory, refused};
 ghost use Rattle.model_span.specs.Dropped.{bad_reply, given_up, left_handed};
-ghost use Rattle.model_retry.specs.Retries.{Fate};
+ghost use Rattle.model_desk.specs.Retries.{Fate};
 ghost use Rattle.model_desk.specs.Queue.{flush, shutdown, late, taken, handed, dropped, settled};
 ghost use Rattle.model_desk.specs.Queue.{popped, popped_lost, drops, ledger_entries};
 ghost use Rattle.model_desk.specs.Queue.{popped_entries, losses, lost_entries, popped_lost_entries};

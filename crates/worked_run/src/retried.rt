@@ -3,7 +3,7 @@
 //! out from its take to the reply to its second attempt, and its span is handed over once.
 
 ghost use Rattle.std.specs.Prelude.{◌≡◌, [], ◌∷◌, Some, true};
-ghost use Rattle.model_retry.specs.Retries.{Outcome, Fate};
+ghost use Rattle.model_desk.specs.Retries.{Outcome, Fate};
 ghost use Rattle.model_desk.specs.Queue as desk;
 ghost use Rattle.model_run.specs.Answers.{to_retry, AreAnswers};
 ghost use Rattle.model_run.specs.Headline.{EachOnce, attempts};

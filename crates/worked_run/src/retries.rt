@@ -2,8 +2,8 @@
 //! Throttling"), at most five times.
 
 ghost use Rattle.std.specs.Prelude.{◌≡◌, [], ◌∷◌, ◌++◌, pos, Some};
-ghost use Rattle.model_retry.specs.Retries.{Outcome, later, no_reply, seconds, Next, again};
-ghost use Rattle.model_retry.specs.Retries.{give_up, Cause, attempts};
+ghost use Rattle.model_desk.specs.Retries.{Outcome, later, no_reply, seconds, Next, again};
+ghost use Rattle.model_desk.specs.Retries.{give_up, Cause, attempts};
 ghost use Rattle.model_run.specs.Steps.{Step};
 ghost use Rattle.model_run.specs.Runs.{Answer, taken, not_taken, encoded, sent, early, replied};
 ghost use Rattle.model_run.specs.Runs.{nothing};

@@ -2,7 +2,7 @@
 //! "Shutdown"; at most one batch is out: profile).
 
 ghost use Rattle.std.specs.Prelude.{◌≡◌, [], ◌∷◌, ◌++◌};
-ghost use Rattle.model_retry.specs.Retries.{Outcome, Next};
+ghost use Rattle.model_desk.specs.Retries.{Outcome, Next};
 ghost use Rattle.model_run.specs.Steps.{Step};
 ghost use Rattle.model_run.specs.Runs.{Answer, taken, not_taken};
 ghost use Rattle.worked_run.specs.Worked.{queue_of, single, first, child, family, ends, sends};

@@ -2,10 +2,10 @@
 //! "OTLP/HTTP Throttling"; RFC 9110, "Retry-After").
 
 ghost use Rattle.std.specs.Prelude.{◌≡◌, pos, Some, None};
-ghost use Rattle.model_retry.specs.Retries.{Outcome, later, no_reply, bad, seconds, date, done};
-ghost use Rattle.model_retry.specs.Retries.{Next, Cause, again, give_up, attempts, Fate, next_of};
-ghost use Rattle.model_retry.specs.Retries.{fate_of};
-ghost use Rattle.model_retry.specs.Waits.{IsRetryConfig, next_after};
+ghost use Rattle.model_desk.specs.Retries.{Outcome, later, no_reply, bad, seconds, date, done};
+ghost use Rattle.model_desk.specs.Retries.{Next, Cause, again, give_up, attempts, Fate, next_of};
+ghost use Rattle.model_desk.specs.Retries.{fate_of};
+ghost use Rattle.model_desk.specs.Waits.{IsRetryConfig, next_after};
 ghost use Rattle.worked_run.specs.Settings.{usual, patient, silence, asked};
 
 /// Statuses after which a batch would be sent again end it, as a missing reply does.

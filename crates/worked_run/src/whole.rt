@@ -4,7 +4,7 @@
 
 ghost use Rattle.std.specs.Prelude.{◌≡◌, [], ◌∷◌, ◌++◌, Some, None, true, false};
 ghost use Rattle.model_span.specs.Dropped.{queue_full};
-ghost use Rattle.model_retry.specs.Retries.{Outcome, Fate};
+ghost use Rattle.model_desk.specs.Retries.{Outcome, Fate};
 ghost use Rattle.model_desk.specs.Queue as desk;
 ghost use Rattle.model_run.specs.Answers.{not_out, to_encode, to_send, to_judge, AreAnswers};
 ghost use Rattle.model_run.specs.Headline.{EachOnce, attempts, batch_numbers, AreNumbered};

@@ -3,7 +3,7 @@
 
 ghost use Rattle.std.specs.Prelude.{◌≡◌, [], ◌∷◌, pos, Some, None};
 ghost use Rattle.model_span.specs.Dropped as names;
-ghost use Rattle.model_retry.specs.Retries.{Fate, Outcome, given_up, later, no_reply};
+ghost use Rattle.model_desk.specs.Retries.{Fate, Outcome, given_up, later, no_reply};
 ghost use Rattle.worked_run.specs.Histories.{named};
 ghost use Rattle.model_processor.specs.Worker.{dropped_spans, fates, handed_spans, numbers};
 ghost use Rattle.model_processor.specs.Worker.{taken_spans, worker_entries, worker_losses};

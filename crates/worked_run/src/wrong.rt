@@ -3,7 +3,7 @@
 
 ghost use Rattle.std.specs.Prelude.{◌≡◌, [], ◌∷◌, ◌++◌, None};
 ghost use Rattle.model_span.specs.Dropped.{too_large};
-ghost use Rattle.model_retry.specs.Retries.{Outcome};
+ghost use Rattle.model_desk.specs.Retries.{Outcome};
 ghost use Rattle.model_run.specs.Runs.{Answer, not_taken, nothing};
 ghost use Rattle.model_run.specs.Answers.{AreAnswers};
 ghost use Rattle.model_run.specs.Headline.{EachOnce, attempts};

@@ -18,15 +18,21 @@ fn faults_of_messages_are_displayed(rt: HostRuntime) {
     let alloc = rt.alloc();
     assert_displayed(&rt, alloc, HttpFault::Ended, "the message ended early");
     assert_displayed(&rt, alloc, HttpFault::Device, "the device failed");
-    assert_displayed(&rt, alloc, HttpFault::BadHead, "bad head");
-    assert_displayed(&rt, alloc, HttpFault::BadLength, "bad length");
-    assert_displayed(&rt, alloc, HttpFault::BadChunk, "bad chunk");
-    assert_displayed(&rt, alloc, HttpFault::TooLarge, "too large");
+    let text = "bad head: what came begins no head of HTTP/1.1, or has a bad field";
+    assert_displayed(&rt, alloc, HttpFault::BadHead, text);
+    let text = "bad length: a body has one Content-Length of digits, or comes in chunks";
+    assert_displayed(&rt, alloc, HttpFault::BadLength, text);
+    let text = "bad chunk: a chunk is a line with its size, its data, and the end of a line";
+    assert_displayed(&rt, alloc, HttpFault::BadChunk, text);
+    let text = "too large: the head or the body passes the limit that is set for it";
+    assert_displayed(&rt, alloc, HttpFault::TooLarge, text);
     assert_displayed(&rt, alloc, HttpFault::OutOfMemory, "out of memory");
     let fault = PostFault::Head(HttpFault::BadHead);
-    assert_displayed(&rt, alloc, fault, "request head: bad head");
+    let text = "request head: bad head: what came begins no head of HTTP/1.1, or has a bad field";
+    assert_displayed(&rt, alloc, fault, text);
     let fault = PostFault::Body(HttpFault::TooLarge);
-    assert_displayed(&rt, alloc, fault, "request body: too large");
+    let text = "request body: too large: the head or the body passes the limit that is set for it";
+    assert_displayed(&rt, alloc, fault, text);
 }
 
 #[test]

@@ -1,11 +1,12 @@
 //! Spans that end while no batch is sent, and processors that are made and closed out.
 ghost use Rattle.std.specs.Prelude.{◌≡◌};
 
-use crate::batch::fixture::{close, config, make, queue};
+use crate::batch::fixture::{close, make, queue};
 use crate::batch::neighbors;
 use crate::batch::neighbors::close_out;
 use crate::equal::{assert_equal, assert_equal_at};
-use crate::fixture::{assert_displayed, end, end_in, end_twice, entry};
+use crate::fixture::{assert_displayed, end, end_in, end_twice};
+use crate::made::{config, entry};
 use batch_desk::{DrainedNames, Totals};
 use batch_processor::{
     BatchBlank, BatchConfig, Flushed, MAX_PASSES, Missing, Naming, NewFault, Parts, Pass,

@@ -1,19 +1,17 @@
-//! How the tests of the batch processor make, lead and close out a processor, and how they read
-//! bodies.
+//! How the tests of the batch processor make, lead and close out a processor.
 ghost use Rattle.std.specs.Prelude.{◌≡◌, ℕ};
 ghost use Rattle.batch_processor.specs.Working.{IsPrepared};
 
 use crate::batch::neighbors;
 use crate::equal::assert_equal;
-use crate::fixture::{end, entry};
-use batch_desk::{DeskConfig, Totals};
+use crate::fixture::end;
+use crate::made::{entry, names_in};
+use batch_desk::Totals;
 use batch_processor::{
     BatchBlank, BatchConfig, BatchProcessor, ManualClock, Naming, Parts, Pass, WorkEnd, WorkerPass,
 };
-use drop_ledger::Ledger;
 use otlp_span::{Entry, Reason};
-use otlp_wire::{Field, Fields, Payload};
-use span_exporter::{Exporter, Handed};
+use span_exporter::Exporter;
 use std::alloc::{Allocator, Global};
 use std::process::Abort;
 use std::sync::Wait;
@@ -35,67 +33,6 @@ pub(crate) fn assert_named(
         assert_equal(rt, *named, entry(ticket, reason));
         ticket = ticket.saturating_sub(1);
     }
-}
-
-/// At most `queue` spans wait, and a batch has `batch`. The delay is as long as it can be.
-pub(crate) fn config(queue: usize, batch: usize) -> BatchConfig {
-    BatchConfig {
-        desk: DeskConfig {
-            queue,
-            batch,
-            delay_ms: u32::MAX,
-        },
-        ..BatchConfig::default()
-    }
-}
-
-/// What the fields with this number hold, of all these messages (Protocol Buffers, "Encoding").
-fn held_by<'a, A: Allocator + Copy>(
-    rt: &impl Abort,
-    alloc: A,
-    messages: &[&'a [u8]],
-    wanted: u32,
-) -> Vec<&'a [u8], A> {
-    let mut held = Vec::new(alloc);
-    for message in messages {
-        for field in Fields::new(message) {
-            let Field { number, payload } = field.expect(rt, "a field");
-            if let Payload::Len(bytes) = payload {
-                if number == wanted {
-                    held.push(bytes).expect(rt, "memory");
-                }
-            }
-        }
-    }
-    held
-}
-
-/// How many resources and how many spans are in a body (opentelemetry-proto,
-/// "ExportTraceServiceRequest": the resources are its fields 1, their scopes the fields 2 of these,
-/// and spans the fields 2 of a scope's).
-fn count_body<A: Allocator + Copy>(rt: &impl Abort, alloc: A, body: &[u8]) -> (usize, usize) {
-    let resources = held_by(rt, alloc, &[body], 1);
-    let scopes = held_by(rt, alloc, resources.as_slice(), 2);
-    (
-        resources.len(),
-        held_by(rt, alloc, scopes.as_slice(), 2).len(),
-    )
-}
-
-/// How many spans are in all the batches that were handed over, each counted once.
-pub(crate) fn count_spans<A: Allocator + Copy>(
-    rt: &impl Abort,
-    alloc: A,
-    handed: &[Handed<A>],
-) -> usize {
-    let mut count = 0usize;
-    for attempt in handed {
-        if attempt.attempt == 1 {
-            let (_, spans) = count_body(rt, alloc, attempt.body.as_slice());
-            count = count.saturating_add(spans);
-        }
-    }
-    count
 }
 
 /// A processor that is made with ample memory.
@@ -169,13 +106,6 @@ pub(crate) fn close<J: Naming, R: Wait + Abort + Copy, A: Allocator + Copy>(
     let desk = accounts.expect(&rt, "all passes are there").desk;
     Left {
         totals: desk.totals(),
-        names: names_in(&rt, alloc, desk.ledger()),
+        names: names_in(alloc, desk.ledger()).expect(&rt, "memory"),
     }
-}
-
-/// The names of a ledger, the newest one first.
-fn names_in<A: Allocator + Copy>(rt: &impl Abort, alloc: A, ledger: &Ledger<A>) -> Vec<Entry, A> {
-    let mut names = Vec::new(alloc);
-    names.extend(ledger.iter().copied()).expect(rt, "memory");
-    names
 }

@@ -1,10 +1,10 @@
 //! Processors to which memory is refused once, at each place in turn.
 ghost use Rattle.std.specs.Prelude.{◌≡◌};
 
-use crate::batch::fixture::{Left, assert_named, close, config, count_spans, make, queue, work};
+use crate::batch::fixture::{Left, assert_named, close, make, queue, work};
 use crate::batch::neighbors;
 use crate::equal::{assert_equal, assert_equal_at};
-use crate::fixture::entry;
+use crate::made::{config, count_spans, entry};
 use batch_desk::{DrainedNames, FateCounts};
 use batch_processor::{BatchBlank, Naming, NewFault, Parts};
 use linked_list_allocator::LocalHeap;
@@ -100,7 +100,7 @@ where
         None => Refused::Nothing,
     };
     assert_settled(&rt, &left, refused);
-    let spans = count_spans(&rt, ample, exporter.handed());
+    let spans = count_spans(ample, exporter.handed()).expect(&rt, "fields");
     assert_equal(&rt, spans as u64, left.totals.handed);
     refused
 }

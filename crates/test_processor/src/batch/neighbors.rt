@@ -15,7 +15,7 @@ use std::sync::Wait;
 /// # Errors
 ///
 /// As of `BatchProcessor::new`.
-pub(crate) fn make<J: Naming, R: Wait + Copy, A: Allocator + Copy>(
+pub fn make<J: Naming, R: Wait + Copy, A: Allocator + Copy>(
     alloc: A,
     rt: R,
     blank: BatchBlank,
@@ -36,7 +36,7 @@ pub(crate) fn make<J: Naming, R: Wait + Copy, A: Allocator + Copy>(
 /// # Errors
 ///
 /// As of `BatchProcessor::close_out`.
-pub(crate) fn close_out<J: Naming, R: Wait + Copy, A: Allocator + Copy>(
+pub fn close_out<J: Naming, R: Wait + Copy, A: Allocator + Copy>(
     processor: BatchProcessor<J, R, A>,
     passes: Vec<Pass<J, R, A>, A>,
     worker: WorkerPass<J, R, A>,

@@ -2,7 +2,8 @@
 ghost use Rattle.std.specs.Prelude.{◌≡◌};
 
 use crate::equal::{assert_equal, assert_equal_at};
-use crate::fixture::{assert_displayed, end, end_in, end_twice, entry, exporter};
+use crate::fixture::{assert_displayed, end, end_in, end_twice, exporter};
+use crate::made::entry;
 use crate::simple::fixture::{assert_handed, close, make};
 use crate::simple::neighbors;
 use crate::simple::neighbors::close_out;

@@ -2,7 +2,8 @@
 ghost use Rattle.std.specs.Prelude.{◌≡◌};
 
 use crate::equal::assert_equal;
-use crate::fixture::{END, sampled};
+use crate::fixture::sampled;
+use crate::made::END;
 use crate::simple::fixture::{close, make};
 use otlp_ids::OutOfMemory;
 use otlp_proto::DEFAULT_MAX_BODY;

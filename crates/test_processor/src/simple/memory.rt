@@ -2,7 +2,8 @@
 ghost use Rattle.std.specs.Prelude.{◌≡◌};
 
 use crate::equal::{assert_equal, assert_equal_at};
-use crate::fixture::{end, entry};
+use crate::fixture::end;
+use crate::made::entry;
 use crate::simple::fixture::{close, make};
 use crate::simple::neighbors;
 use linked_list_allocator::LocalHeap;

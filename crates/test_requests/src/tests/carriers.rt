@@ -13,16 +13,17 @@ type Fields<A> = Vec<(String<A>, Vec<u8, A>), A>;
 /// The `traceparent` of the standard's example.
 const PARENT: &str = "00-4bf92f3577b34da6a3ce929d0e0e4736-00f067aa0ba902b7-01";
 
-/// A context with this state; with zeros for its span id where it is to be invalid.
+/// A context with these flags and this state; with zeros for its span id where it is to be invalid.
 fn context<A: Allocator>(
     alloc: A,
     is_valid: bool,
+    flags: TraceFlags,
     state: &str,
 ) -> Result<SpanContext<A>, OutOfMemory> {
     Ok(SpanContext {
         trace: TraceId(*b"\x4b\xf9\x2f\x35\x77\xb3\x4d\xa6\xa3\xce\x92\x9d\x0e\x0e\x47\x36"),
         span: SpanId([u8::from(is_valid); 8]),
-        flags: TraceFlags::SAMPLED,
+        flags,
         remote: false,
         state: String::from_str(alloc, state)?,
     })
@@ -107,17 +108,22 @@ fn a_context_is_extracted_by_names_of_either_case(rt: HostRuntime) {
 fn injected<A: Allocator + Copy>(
     alloc: A,
     is_valid: bool,
+    flags: TraceFlags,
     state: &str,
 ) -> Result<(usize, Option<SpanContext<A>>), OutOfMemory> {
-    let context = context(alloc, is_valid, state)?;
+    let context = context(alloc, is_valid, flags, state)?;
     let mut request = Vec::new(alloc);
     inject(alloc, &context, &mut request)?;
     Ok((request.len(), extract(alloc, &request)?))
 }
 
 /// Whether the context that was added is read again as it was, but that it is remote.
-fn comes_back<A: Allocator + Copy>(alloc: A, state: &str) -> Result<bool, OutOfMemory> {
-    let (count, found) = injected(alloc, true, state)?;
+fn comes_back<A: Allocator + Copy>(
+    alloc: A,
+    flags: TraceFlags,
+    state: &str,
+) -> Result<bool, OutOfMemory> {
+    let (count, found) = injected(alloc, true, flags, state)?;
     let Some(mut found) = found else {
         return Ok(false);
     };
@@ -128,18 +134,21 @@ fn comes_back<A: Allocator + Copy>(alloc: A, state: &str) -> Result<bool, OutOfM
     } else {
         count == 2
     };
-    Ok(is_remote && has_fields && found == context(alloc, true, state)?)
+    Ok(is_remote && has_fields && found == context(alloc, true, flags, state)?)
 }
 
 #[test]
 fn what_is_injected_is_extracted(rt: HostRuntime) {
-    for state in ["", "rojo=00f067aa0ba902b7,congo=t61rcWkgMzE"] {
-        let is_same = comes_back(rt.alloc(), state).expect(&rt, "memory");
-        assert_equal(&rt, is_same, true);
+    for flags in [TraceFlags(0), TraceFlags::SAMPLED] {
+        for state in ["", "rojo=00f067aa0ba902b7,congo=t61rcWkgMzE"] {
+            let is_same = comes_back(rt.alloc(), flags, state).expect(&rt, "memory");
+            assert_equal(&rt, is_same, true);
+        }
     }
-    let (none, _) = injected(rt.alloc(), false, "a=1").expect(&rt, "memory");
+    let flags = TraceFlags::SAMPLED;
+    let (none, _) = injected(rt.alloc(), false, flags, "a=1").expect(&rt, "memory");
     assert_equal(&rt, none, 0);
-    let (count, _) = injected(rt.alloc(), true, "a=1\r\nhost: b").expect(&rt, "memory");
+    let (count, _) = injected(rt.alloc(), true, flags, "a=1\r\nhost: b").expect(&rt, "memory");
     assert_equal(&rt, count, 1);
     assert_equal(
         &rt,
@@ -151,12 +160,13 @@ fn what_is_injected_is_extracted(rt: HostRuntime) {
 #[test]
 fn each_call_for_memory_of_a_carrier_is_refused_in_turn(rt: HostRuntime) {
     let ample = FailingAllocator::new(rt.alloc(), u64::MAX);
-    assert_equal(&rt, comes_back(&ample, "a=1").ok(), Some(true));
+    let flags = TraceFlags::SAMPLED;
+    assert_equal(&rt, comes_back(&ample, flags, "a=1").ok(), Some(true));
     let calls = ample.calls();
     assert!(rt; calls > 8);
     for fail_index in 0..calls {
         let scarce = FailingAllocator::new(rt.alloc(), fail_index);
-        let is_same = comes_back(&scarce, "a=1").ok();
+        let is_same = comes_back(&scarce, flags, "a=1").ok();
         // A vector that is refused room for more asks once more, for what it needs.
         assert!(rt; is_same.is_none() || scarce.calls() > calls);
     }

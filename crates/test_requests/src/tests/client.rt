@@ -1,11 +1,12 @@
 //! Requests of a client, what goes out, and their spans.
 use super::equal::assert_equal;
 use super::far_side::{Does, FarSide};
+use super::requests::long_path;
 use super::spans::lines_of;
 use batch_processor::ManualClock;
 use otlp_http::{Reply, Target};
 use otlp_ids::{SpanContext, SpanId, TraceFlags, TraceId};
-use otlp_sampler::AlwaysOn;
+use otlp_sampler::{AlwaysOff, AlwaysOn, Sampler};
 use otlp_span::{Resource, Scope, SpanLimits};
 use std::alloc::Global;
 use std::cell::RefCell;
@@ -14,7 +15,7 @@ use std::str;
 use std::sync::Arc;
 use std::test::Fail;
 use trace_api::{BodyPass, Provider, WordsRng};
-use traced_client::{Client, ClientParts, ClientRequest, SendFault};
+use traced_http::client::{Client, ClientParts, ClientRequest, SendFault};
 
 /// Words of traces and of spans.
 const WORDS: [u64; 6] = [1, 2, 3, 4, 5, 6];
@@ -55,9 +56,21 @@ enum Asked {
 
 /// Asks a far side that does this, with identifiers by these words.
 fn ask(rt: &HostRuntime, words: &[u64], does: Does, asked: &[Asked]) -> Result<Came, Fail> {
+    ask_at(rt, AlwaysOn, "/items?page=2", words, does, asked)
+}
+
+/// The same at this path, of a client with this sampler.
+fn ask_at<S: Sampler + Drop>(
+    rt: &HostRuntime,
+    sampler: S,
+    path: &str,
+    words: &[u64],
+    does: Does,
+    asked: &[Asked],
+) -> Result<Came, Fail> {
     let alloc = rt.alloc();
     let resource = Arc::new(alloc, Resource::new(alloc, Vec::new(alloc)))?;
-    let provider = Provider::new(AlwaysOn, resource, SpanLimits::default());
+    let provider = Provider::new(sampler, resource, SpanLimits::default());
     let sent = RefCell::new(Vec::new(alloc));
     let parts = ClientParts {
         tracer: provider.tracer(Arc::new(alloc, Scope::named(alloc, "test")?)?),
@@ -66,7 +79,7 @@ fn ask(rt: &HostRuntime, words: &[u64], does: Does, asked: &[Asked]) -> Result<C
         dial: FarSide { does, sent: &sent },
     };
     let mut client = Client::new(alloc, parts);
-    let target = Target::new(alloc, "shop.example", 8080, "/items?page=2")?;
+    let target = Target::new(alloc, "shop.example", 8080, path)?;
     let mut pass = BodyPass::new(alloc, 8)?;
     let mut replies = String::new(alloc);
     for one in asked {
@@ -131,8 +144,10 @@ fn each_request_has_a_span_of_its_own_whose_context_it_carries(
 /// How the line of each span begins that is an error.
 const BEGINS: &str = "GET Client 0000000000000003 error http.request.method=Text(\"GET\") \
     server.address=Text(\"shop.example\") server.port=Int(8080) \
-    url.full=Text(\"http://shop.example:8080/items?page=2\") \
-    network.protocol.version=Text(\"1.1\")";
+    url.full=Text(\"http://shop.example:8080/items?page=2\")";
+
+/// What it says next where there was a connection.
+const VERSION: &str = " network.protocol.version=Text(\"1.1\")";
 
 /// What a far side does, what the client answers, and how the line of the span ends.
 const ERRORS: &[(Does, &str, &str)] = &[
@@ -140,6 +155,11 @@ const ERRORS: &[(Does, &str, &str)] = &[
         Does::Replies(b"HTTP/1.1 400 Bad Request\r\nContent-Length: 2\r\n\r\nno"),
         "400 no\n",
         " http.response.status_code=Int(400) error.type=Text(\"400\")\n",
+    ),
+    (
+        Does::Replies(b"HTTP/1.1 099 Odd\r\nContent-Length: 0\r\n\r\n"),
+        "99 \n",
+        " http.response.status_code=Int(99) error.type=Text(\"99\")\n",
     ),
     (
         Does::Replies(b"HTTP/1.1 503 Busy\r\nContent-Length: 9\r\n\r\n"),
@@ -168,7 +188,7 @@ const ERRORS: &[(Does, &str, &str)] = &[
     ),
     (
         Does::Replies(b"SSH-2.0\r\n"),
-        "no reply: bad head\n",
+        "no reply: bad head: what came begins no head of HTTP/1.1, or has a bad field\n",
         " error.type=Text(\"no_reply\")\n",
     ),
 ];
@@ -179,7 +199,12 @@ fn an_error_is_on_the_span(rt: HostRuntime) -> Result<(), Fail> {
     for (does, reply, ends) in ERRORS {
         let came = ask(&rt, &WORDS, *does, &[Asked::Get(None)])?;
         assert_equal(&rt, came.replies.as_str(), *reply);
-        let span = format!(in alloc; "{BEGINS}{ends}")?;
+        let version = if matches!(does, Does::Refuses) {
+            ""
+        } else {
+            VERSION
+        };
+        let span = format!(in alloc; "{BEGINS}{version}{ends}")?;
         assert_equal(&rt, came.spans.as_str(), span.as_str());
         assert_equal(&rt, came.untraced, 0);
     }
@@ -296,8 +321,8 @@ fn each_method_is_sent_and_is_on_its_span(rt: HostRuntime) -> Result<(), Fail> {
     let spans = "HTTP Client 0000000000000003 http.request.method=Text(\"_OTHER\") \
         server.address=Text(\"shop.example\") server.port=Int(8080) \
         url.full=Text(\"http://shop.example:8080/items?page=2\") \
-        network.protocol.version=Text(\"1.1\") \
-        http.request.method_original=Text(\"BREW\") http.response.status_code=Int(200)\n";
+        http.request.method_original=Text(\"BREW\") \
+        network.protocol.version=Text(\"1.1\") http.response.status_code=Int(200)\n";
     assert_equal(&rt, came.spans.as_str(), spans);
     Ok(())
 }
@@ -346,5 +371,57 @@ fn a_bad_request_is_refused_and_nothing_is_sent(rt: HostRuntime) -> Result<(), F
             (0, 0, 0),
         );
     }
+    Ok(())
+}
+
+#[test]
+fn a_request_that_is_not_sampled_says_so(rt: HostRuntime) -> Result<(), Fail> {
+    let asked = [Asked::Get(None)];
+    let came = ask_at(&rt, AlwaysOff, "/", &WORDS, Does::Replies(GOOD), &asked)?;
+    let sent = b"GET / HTTP/1.1\r\nHost: shop.example:8080\r\n\
+        traceparent: 00-00000000000000010000000000000002-0000000000000003-00\r\n\
+        Connection: close\r\n\r\n";
+    assert_equal(&rt, came.sent.as_slice(), sent.as_slice());
+    assert_equal(&rt, came.replies.as_str(), "200 hi\n");
+    assert_equal(&rt, (came.spans.len(), came.untraced), (0, 0));
+    Ok(())
+}
+
+#[test]
+fn a_long_path_goes_out_and_is_on_the_span(rt: HostRuntime) -> Result<(), Fail> {
+    let alloc = rt.alloc();
+    for len in [63, 64, 65, 8_192] {
+        let path = long_path(alloc, len)?;
+        let asked = [Asked::Get(None)];
+        let came = ask_at(
+            &rt,
+            AlwaysOn,
+            path.as_str(),
+            &WORDS,
+            Does::Replies(GOOD),
+            &asked,
+        )?;
+        let sent = format!(in alloc; "GET {path} HTTP/1.1\r\n")?;
+        assert!(rt; came.sent.as_slice().starts_with(sent.as_bytes()));
+        let said = format!(in alloc; " url.full=Text(\"http://shop.example:8080{path}\") ")?;
+        assert!(rt; came.spans.as_str().contains(said.as_str()));
+        assert_equal(&rt, came.replies.as_str(), "200 hi\n");
+        assert_equal(&rt, came.untraced, 0);
+    }
+    Ok(())
+}
+
+#[test]
+fn a_secret_of_the_query_goes_out_and_is_not_on_the_span(rt: HostRuntime) -> Result<(), Fail> {
+    let asked = [Asked::Get(None)];
+    let path = "/items?page=2&sig=0f3c";
+    let came = ask_at(&rt, AlwaysOn, path, &WORDS, Does::Replies(GOOD), &asked)?;
+    assert!(rt;
+        came.sent
+            .as_slice()
+            .starts_with(b"GET /items?page=2&sig=0f3c HTTP/1.1\r\n")
+    );
+    let said = " url.full=Text(\"http://shop.example:8080/items?page=2&sig=REDACTED\") ";
+    assert!(rt; came.spans.as_str().contains(said));
     Ok(())
 }

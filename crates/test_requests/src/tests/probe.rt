@@ -11,7 +11,7 @@ use std::hash::RandomState;
 use std::sync::Arc;
 use std::test::Fail;
 use trace_api::{BodyPass, EndPass, Provider, Tracer, WordsRng};
-use traced_server::{Handler, Origin, RequestSpan, ServerName, TracedService, Tracing};
+use traced_http::server::{Handler, Origin, RequestSpan, ServerName, TracedService, Tracing};
 
 /// The moment of all spans, in nanoseconds since 1970.
 const AT: u64 = 1_000;
@@ -46,6 +46,12 @@ impl Probe<'_> {
     }
 }
 
+/// The status that a path asks for, if it does.
+fn status_in(path: &str) -> Option<StatusCode> {
+    let status = path.strip_prefix("/status/")?;
+    StatusCode::from_u16(status.parse().ok()?).ok()
+}
+
 impl<P: EndPass<SpanData>> Handler<P> for Probe<'_> {
     fn route(&self, request: &Request<Bytes>) -> Option<&str> {
         match request.uri().path() {
@@ -67,6 +73,10 @@ impl<P: EndPass<SpanData>> Handler<P> for Probe<'_> {
             Some(context) => format!(in alloc; "{}", context.span)?,
             None => String::new(alloc),
         };
+        if let Some(status) = status_in(request.uri().path()) {
+            response.status = status;
+            return Ok(());
+        }
         match request.uri().path() {
             "/fails" => response.status = StatusCode::BAD_GATEWAY,
             "/memory" => return Err(AllocError),

@@ -1,9 +1,13 @@
 //! Batches of spans whose scopes take turns.
-use otlp_ids::{OutOfMemory, SpanContext, SpanId, TraceFlags, TraceId};
-use otlp_span::{Kind, Open, Resource, Scope, SpanData, SpanLimits, SpanRecord};
+use crate::load::{END, start_span};
+use anyhow::Result;
+use otlp_ids::OutOfMemory;
+use otlp_sampler::AlwaysOn;
+use otlp_span::{Resource, Scope, SpanLimits};
 use otlp_value::Value;
 use std::alloc::Global;
 use std::sync::Arc;
+use trace_api::{BodyPass, Provider, Tracer, WordsRng};
 
 /// What a batch is made of.
 #[derive(Clone, Copy)]
@@ -45,60 +49,32 @@ fn scopes(alloc: Global, count: u32) -> Result<Vec<Arc<Scope>>, OutOfMemory> {
     Ok(scopes)
 }
 
-/// Attributes that a span of a request may have.
-const ATTRIBUTES: [(&str, &str); 5] = [
-    ("http.request.method", "GET"),
-    ("http.route", "/cart/{id}"),
-    ("server.address", "shop.example"),
-    ("user_agent.original", "curl/8.5.0"),
-    ("network.protocol.version", "1.1"),
-];
+/// A batch of this shape: what has ended on a pass. Each round has a span of each scope.
+pub fn batch(alloc: Global, shape: Shape) -> Result<BodyPass> {
+    let provider = Provider::new(AlwaysOn, resource(alloc)?, SpanLimits::default());
+    let mut pass = BodyPass::new(alloc, shape.spans as usize)?;
+    let mut tracers = Vec::new(alloc);
+    for scope in scopes(alloc, shape.scopes)? {
+        tracers.push(provider.tracer(scope))?;
+    }
+    for _ in 0..shape.spans.checked_div(shape.scopes).unwrap_or(0) {
+        end_each(alloc, &tracers, shape.attributes, &mut pass)?;
+    }
+    Ok(pass)
+}
 
-/// Sets the first attributes of a span.
-fn set_attributes(alloc: Global, record: &mut SpanRecord, count: usize) -> Result<(), OutOfMemory> {
-    for (key, text) in ATTRIBUTES.iter().take(count) {
-        record.set_attribute(String::from_str(alloc, key)?, Value::text(alloc, text)?)?;
+/// Ends a span of each tracer on a pass, with so many attributes, at most five. All of them have
+/// the same identifiers.
+fn end_each(
+    alloc: Global,
+    tracers: &[Tracer<'_, AlwaysOn>],
+    attributes: usize,
+    pass: &mut BodyPass,
+) -> Result<()> {
+    for tracer in tracers {
+        let mut words = WordsRng::new(Vec::from_slice(alloc, &[1, 2, 3])?);
+        let mut span = start_span(alloc, &mut words, tracer, attributes)?;
+        span.end(pass, END);
     }
     Ok(())
-}
-
-/// A root that has ended, with so many attributes, at most five.
-fn ended_span(
-    alloc: Global,
-    resource: &Arc<Resource>,
-    scope: &Arc<Scope>,
-    attributes: usize,
-) -> Result<SpanData, OutOfMemory> {
-    let open = Open {
-        context: SpanContext {
-            trace: TraceId([1; 16]),
-            span: SpanId([2; 8]),
-            flags: TraceFlags::SAMPLED,
-            remote: false,
-            state: String::new(alloc),
-        },
-        parent: None,
-        parent_remote: false,
-        resource: resource.clone()?,
-        scope: scope.clone()?,
-        name: String::from_str(alloc, "GET /cart")?,
-        kind: Kind::Internal,
-        start: 1,
-    };
-    let mut record = SpanRecord::open(alloc, open, &SpanLimits::default())?;
-    set_attributes(alloc, &mut record, attributes)?;
-    Ok(record.close(2))
-}
-
-/// A batch of this shape.
-pub fn batch(alloc: Global, shape: Shape) -> Result<Vec<SpanData>, OutOfMemory> {
-    let resource = resource(alloc)?;
-    let scopes = scopes(alloc, shape.scopes)?;
-    let mut spans = Vec::new(alloc);
-    for _ in 0..shape.spans.checked_div(shape.scopes).unwrap_or(0) {
-        for scope in &scopes {
-            spans.push(ended_span(alloc, &resource, scope, shape.attributes)?)?;
-        }
-    }
-    Ok(spans)
 }

@@ -1,55 +1,17 @@
 //! What is printed.
 use crate::encoding::batches::{Shape, batch};
-use crate::encoding::figures::Tenths;
 use crate::encoding::reading::{empty_resources, memory_of, time_reading};
 use crate::encoding::writing::{time_copying, time_encoding, time_grouping};
 use anyhow::Result;
 use otlp_proto::{body_of, encode};
-use otlp_span::SpanData;
 use scope_group::group;
-use std::alloc::Global;
 use std::io::Write;
-use std::time::Clock;
 
 /// How many spans a batch has, unless it is to show how times grow.
 const SPANS: u32 = 512;
 
-/// What was measured of a batch.
-#[derive(Clone, Copy)]
-struct Figures {
-    bytes: usize,
-    grouped: Tenths,
-    encoded: Tenths,
-    copied: Tenths,
-    read: Tenths,
-    sum: u64,
-}
-
-/// Measures the groups of some spans, and their body.
-fn figures_of(
-    clock: &impl Clock,
-    alloc: Global,
-    spans: &[SpanData],
-    rounds: u32,
-) -> Result<Figures> {
-    let count = spans.len();
-    let (grouped, _) = time_grouping(clock, alloc, spans, rounds)?;
-    let groups = group(alloc, spans)?;
-    let (encoded, encoded_sum) = time_encoding(clock, alloc, &groups, count, rounds)?;
-    let body = encode(alloc, &groups, usize::MAX)?;
-    let (copied, copied_sum) = time_copying(clock, alloc, &body, count, rounds)?;
-    let read = time_reading(clock, alloc, &body, count, rounds)?;
-    Ok(Figures {
-        bytes: body.len(),
-        grouped,
-        encoded,
-        copied,
-        read,
-        sum: encoded_sum.wrapping_add(copied_sum),
-    })
-}
-
-/// Measures a batch, and prints a line of it.
+/// Prints how many bytes the body of a batch has, and, with rounds, how long each of its spans
+/// takes.
 fn print_batch<W: Write>(
     rt: &HostRuntime,
     output: &mut W,
@@ -57,36 +19,21 @@ fn print_batch<W: Write>(
     rounds: u32,
 ) -> Result<()> {
     let alloc = rt.alloc();
-    let spans = batch(alloc, shape)?;
-    let figures = figures_of(rt, alloc, &spans, rounds)?;
-    write_figures(output, shape, rounds, figures)
-}
-
-/// Prints what was measured of a batch; without rounds how many bytes its body has alone.
-fn write_figures<W: Write>(
-    output: &mut W,
-    shape: Shape,
-    rounds: u32,
-    figures: Figures,
-) -> Result<()> {
-    let Shape {
-        spans,
-        scopes,
-        attributes,
-    } = shape;
-    let Figures {
-        bytes,
-        grouped,
-        encoded,
-        copied,
-        read,
-        sum,
-    } = figures;
+    let pass = batch(alloc, shape)?;
+    let (spans, count) = (pass.spans(), pass.spans().len());
+    let groups = group(alloc, spans)?;
+    let body = encode(alloc, &groups, usize::MAX)?;
+    let (scopes, attributes, bytes) = (shape.scopes, shape.attributes, body.len());
     write!(
         output,
-        "{spans} spans, {scopes} scopes, {attributes} attributes: {bytes} bytes"
+        "{count} spans, {scopes} scopes, {attributes} attributes: {bytes} bytes"
     )?;
     if rounds > 0 {
+        let (grouped, _) = time_grouping(rt, alloc, spans, rounds)?;
+        let (encoded, written) = time_encoding(rt, alloc, &groups, count, rounds)?;
+        let (copied, again) = time_copying(rt, alloc, &body, count, rounds)?;
+        let read = time_reading(rt, alloc, &body, count, rounds)?;
+        let sum = written.wrapping_add(again);
         write!(output, ", {grouped} ns grouped, {encoded} encoded")?;
         write!(output, ", {copied} copied, {read} read ({sum})")?;
     }
@@ -118,20 +65,14 @@ pub fn print_memory<W: Write>(rt: &HostRuntime, output: &mut W) -> Result<()> {
             scopes: 1,
             attributes,
         };
-        let memory = request_memory(alloc, shape)?;
+        let pass = batch(alloc, shape)?;
+        let memory = memory_of(alloc, &body_of(alloc, pass.spans(), usize::MAX)?)?;
         writeln!(
             output,
             "{attributes} attributes: {memory} bytes of memory as a request"
         )?;
     }
     Ok(())
-}
-
-/// How many bytes of memory the request of a batch takes.
-fn request_memory(alloc: Global, shape: Shape) -> Result<usize> {
-    let spans = batch(alloc, shape)?;
-    let body = body_of(alloc, &spans, usize::MAX)?;
-    memory_of(alloc, &body)
 }
 
 /// Prints lines of larger batches, and of bodies of empty resources, so that times are seen to grow

@@ -6,10 +6,11 @@ use Rattle.std.proofs.KnownBytes.{Consumes-nil}
 use Rattle.std.specs.Io.KnownBytes.{Consumes, IsAtEnd}
 use Rattle.http_wire.specs.declared.fault.HttpFault.TheVariants as faults
 use Rattle.http_wire.specs.Devices.{HasFailed}
-use Rattle.http_wire.specs.Heads.{ParsesSuchHead, IsStoppedHead}
+use Rattle.http_wire.specs.Heads.{HasNone, ParsesSuchHead, IsStoppedHead}
 use Rattle.http_wire.specs.Places.{IsPlace}
 use Rattle.http_wire.proofs.ChunkLemmas.{grows}
-use Rattle.http_wire.proofs.HeadStops.{stopped_lacks}
+use Rattle.http_wire.proofs.HeadStops.{found_whole, stopped_lacks}
+use Rattle.http_wire.proofs.PlaceLemmas.{none_before_due, none_of_nothing}
 use Rattle.http_wire.proofs.head.read_head.Goals as goal
 
 pub loop-place-init : goal.loop-place-init
@@ -17,7 +18,8 @@ loop-place-init g c =
     let empty = c.clear.ensures.items in
     let left = g.R.FaultRead.remaining c.args.reader.now in (
       subst (Consumes left left) (sym empty) (Consumes-nil left),
-      subst g.P.ParseHead.has_none (sym empty) g.met.P.ParseHead.none_of_nothing,
+      subst (HasNone g.P.ParseHead.valid g.P.ParseHead.printed) (sym empty)
+          (none_of_nothing g.P.ParseHead.valid g.P.ParseHead.printed g.met.P.ParseHead.due),
       subst (λ text. length text ≤ c.args.limits.now.head) (sym empty) (omega arith),
       c.requires,
       refl,
@@ -26,18 +28,19 @@ loop-place-init g c =
 
 pub returns-in-Some-clause-head : goal.returns-in-Some-clause-head
 returns-in-Some-clause-head g c =
-    let found : ParsesSuchHead g.P.ParseHead.has_none g.P.ParseHead.may_become
-    g.P.ParseHead.never_has g.P.ParseHead.exceeds g.P.ParseHead.finds_front
-    c.push_reserved.new.self.items
+    let P = g.P.ParseHead in
+    let found : ParsesSuchHead (HasNone P.valid P.printed) P.may_become P.never_has P.exceeds
+    P.covers P.is_within c.push_reserved.new.self.items
     (length c.loop-place.spans) c.parse.new.spans (Ok (Some c.in-Some.head)) =
     search rules in
     let none =
-    subst g.P.ParseHead.has_none (sym c.reserve.ensures.items) c.loop-place.invariant.1 in
+    subst (HasNone P.valid P.printed) (sym c.reserve.ensures.items) c.loop-place.invariant.1 in
     let below : length c.reserve.new.self.items < c.args.limits.now.head =
     subst (λ t. length t < c.args.limits.now.head) (sym c.reserve.ensures.items) (search rules) in
-    g.met.P.ParseHead.is_whole c.args.limits.now c.reserve.new.self.items
-    c.push_reserved.new.self.items _ c.parse.new.spans _ c.in-Some.head none
-    c.push_reserved.ensures.items below c.loop-place.invariant.3 found
+    found_whole P.valid P.printed P.fields_in P.covers P.is_within g.met.P.ParseHead.begins
+    g.met.P.ParseHead.fits c.args.limits.now c.reserve.new.self.items
+    c.push_reserved.new.self.items _ c.parse.new.spans c.in-Some.head none
+    c.push_reserved.ensures.items below (c.parse.ensures.room ∙ c.loop-place.invariant.3) found
 
 pub returns-in-Some-clause-taken : goal.returns-in-Some-clause-taken
 returns-in-Some-clause-taken g c =
@@ -67,10 +70,11 @@ loop-place-preserved g c =
     let at = c.loop-place.invariant.5 in
     let due = c.pass.ensures.due c.loop-place.text.items at in
     let none =
-    g.met.P.ParseHead.none_yet c.loop-place.text.items c.in-Ok-Some.byte c.loop-place.invariant.1
+    none_before_due g.P.ParseHead.valid g.P.ParseHead.printed g.met.P.ParseHead.due
+    c.loop-place.text.items c.in-Ok-Some.byte c.loop-place.invariant.1
     (λ is. false≢true (sym c.if-pass.false ∙ due.1 is)) in (
       grown.taken,
-      subst g.P.ParseHead.has_none (sym grown.is) none,
+      subst (HasNone g.P.ParseHead.valid g.P.ParseHead.printed) (sym grown.is) none,
       grown.bytes,
       c.loop-place.invariant.3,
       c.in-Ok-Some.ensures.counted ∙ c.loop-place.invariant.4,
@@ -85,9 +89,9 @@ loop-place-preserved-in_default g c =
     c.push_reserved.new.self.items c.in-Ok-Some.byte _ c.loop-place.invariant.0
     (search rules) c.reserve.ensures.items c.push_reserved.ensures.items c.in-Ok-Some.field-0-is
     c.in-Ok-Some.ensures.some in
-    let parsed : ParsesSuchHead g.P.ParseHead.has_none g.P.ParseHead.may_become
-    g.P.ParseHead.never_has g.P.ParseHead.exceeds g.P.ParseHead.finds_front
-    c.push_reserved.new.self.items
+    let P = g.P.ParseHead in
+    let parsed : ParsesSuchHead (HasNone P.valid P.printed) P.may_become P.never_has P.exceeds
+    P.covers P.is_within c.push_reserved.new.self.items
     (length c.loop-place.spans) c.parse.new.spans (Ok None) =
     search rules in (
       grown.taken,
@@ -109,7 +113,8 @@ returns-in-Ok-None-clause-none g c =
     c.in-Ok-None.field-0-is c.in-Ok-None.ensures.end in
     stopped_lacks _ _ _ _ c.args.limits.now kept _ _ _ faults.Ended c.stopped-in-Ok-None.result
     (λ is. (end, is, below)) (omega (arith, below)) c.loop-place.invariant.3
-    (subst (λ t. IsStoppedHead g.P.ParseHead.has_none g.P.ParseHead.may_become
+    (subst (λ t. IsStoppedHead (HasNone g.P.ParseHead.valid g.P.ParseHead.printed)
+    g.P.ParseHead.may_become
     g.P.ParseHead.never_has g.P.ParseHead.exceeds t
     (length c.loop-place.spans) faults.Ended c.stopped-in-Ok-None.result)
     c.deref-in-Ok-None.ensures.value c.stopped-in-Ok-None.ensures)
@@ -124,7 +129,8 @@ returns-in-Err-clause-none g c =
     search rules in
     stopped_lacks _ _ _ _ c.args.limits.now kept _ _ _ faults.Device c.stopped-in-Err.result
     (λ is. (failed, is, below)) (omega (arith, below)) c.loop-place.invariant.3
-    (subst (λ t. IsStoppedHead g.P.ParseHead.has_none g.P.ParseHead.may_become
+    (subst (λ t. IsStoppedHead (HasNone g.P.ParseHead.valid g.P.ParseHead.printed)
+    g.P.ParseHead.may_become
     g.P.ParseHead.never_has g.P.ParseHead.exceeds t
     (length c.loop-place.spans) faults.Device c.stopped-in-Err.result)
     c.deref-in-Err.ensures.value c.stopped-in-Err.ensures)
@@ -137,7 +143,8 @@ returns-clause-none g c =
     let full : length text ≡ c.args.limits.now.head = omega (arith, short, test) in
     stopped_lacks _ _ _ _ c.args.limits.now text _ _ _ faults.TooLarge c.stopped-2.result
     (λ is. (short, inl (is, full))) short c.loop-place.invariant.3
-    (subst (λ t. IsStoppedHead g.P.ParseHead.has_none g.P.ParseHead.may_become
+    (subst (λ t. IsStoppedHead (HasNone g.P.ParseHead.valid g.P.ParseHead.printed)
+    g.P.ParseHead.may_become
     g.P.ParseHead.never_has g.P.ParseHead.exceeds t
     (length c.loop-place.spans) faults.TooLarge c.stopped-2.result)
     c.deref-2.ensures.value c.stopped-2.ensures)

@@ -1,5 +1,6 @@
 use Rattle.std.proofs.Common.{◌≡◌, ◌≤◌, ◌-◌, length}
 use Rattle.std.specs.Io.KnownBytes.{Consumes}
+use Rattle.http_wire.specs.Heads.{HasNone}
 use Rattle.http_wire.specs.Places.{IsPlace}
 use Rattle.http_wire.proofs.head.read_head.Given as goal
 
@@ -10,7 +11,8 @@ invariant-loop-place g l =
     let remaining = g.R.FaultRead.remaining in
     let failures = g.R.FaultRead.failures in
     Consumes (remaining l.initial.reader) (remaining l.reader) l.text.items
-    × g.P.ParseHead.has_none l.text.items × (length l.text.items ≤ l.limits.head)
+    × HasNone g.P.ParseHead.valid g.P.ParseHead.printed l.text.items
+    × (length l.text.items ≤ l.limits.head)
     × (length l.spans ≡ l.limits.fields)
     × (failures l.reader ≡ failures l.initial.reader) × IsPlace l.text.items l.place
 

@@ -1,21 +1,18 @@
-use Rattle.std.proofs.Common.{◌≡◌, refl, sym, ap, subst, ◌∙◌, Some, Err, IfErr, List, [], ◌∷◌}
-use Rattle.std.proofs.Common.{rules, arith, ◌++◌, ◌-◌, suc, take, get_or, take_all, to_z, of_z, w64}
+use Rattle.std.proofs.Common.{◌≡◌, refl, sym, ap, subst, ◌∙◌, Err, [], ◌∷◌}
+use Rattle.std.proofs.Common.{rules, arith, ◌++◌, ◌-◌, suc, take_all, to_z, of_z, w64}
 use Rattle.std.proofs.lemmas.List.{map-append}
 use Rattle.model_message.specs.Reading.{Reads, too_deep}
-use Rattle.model_message.specs.Wire.{Field, row, len}
+use Rattle.model_message.specs.Wire.{row, len}
 use Rattle.model_message.specs.Tables
-use Rattle.model_message.specs.Tables.{message, repeated, any, ◌▸◌}
-use Rattle.model_message.specs.Messages.{value, value_of, read, payloads, utf8}
+use Rattle.model_message.specs.Tables.{message, repeated, any}
+use Rattle.model_message.specs.Messages.{value, value_of, payloads, utf8}
 use Rattle.model_message.specs.AnyValue.{AnyValue, as_pairs}
 use Rattle.std.specs.List.{Contains}
-use Rattle.otlp_wire.specs.Fields.{GivesField, field_of}
 use Rattle.otlp_wire.specs.Faults.{NamesOne}
-use Rattle.otlp_wire.specs.Gathering.{IsGathered, IsKept, part_faults}
 use Rattle.otlp_read.specs.Members.{parts_view, members_from_last, Holds, Runs}
 use Rattle.otlp_read.specs.Values.{any_value_view, values_view, pair_view, pairs_view}
 use Rattle.otlp_wire.specs.declared.fault.ReadFault.TheVariants.{Wire}
-use Rattle.otlp_wire.proofs.FieldsRead.{read-more}
-use Rattle.otlp_wire.proofs.GatherSteps.{After, after-more, row-fails, field-fails, kept-part}
+use Rattle.otlp_wire.proofs.GatherSteps.{row-fails}
 use Rattle.otlp_wire.proofs.Finished.{on-err, on-ok}
 use Rattle.otlp_read.proofs.ValueViews.{view-Empty, view-Text, view-Bool, view-Int, view-Double}
 use Rattle.otlp_read.proofs.ValueViews.{view-Pairs, view-Bytes}
@@ -24,175 +21,98 @@ use Rattle.otlp_read.proofs.PairValues.{is-done, is-reading, row-of-value, one-v
 use Rattle.otlp_read.proofs.PairValues.{key-fails, value-fails, pair-read, pair-value}
 use Rattle.otlp_read.proofs.PairValues.{pair-no-value}
 use Rattle.otlp_read.proofs.ValueSteps.{member-text, member-bool, member-int, member-double}
-use Rattle.otlp_read.proofs.ValueSteps.{member-bytes, member-pairs, any-reads, list-skips}
-use Rattle.otlp_read.proofs.ValueSteps.{list-more, list-fails, list-none, list-read, parts-through}
+use Rattle.otlp_read.proofs.ValueSteps.{member-bytes, member-pairs, any-reads, read-skips}
+use Rattle.otlp_read.proofs.ValueSteps.{read-adds, read-fails, list-none, list-read, part-added}
 use Rattle.otlp_read.proofs.ValueSteps.{part-fails, reads-on, names-on}
 use Rattle.otlp_read.proofs.any_value.+value.Goals as goal
 
 pub push_values-returns-in_err-field-clause-err : goal.push_values-returns-in_err-field-clause-err
 push_values-returns-in_err-field-clause-err g t c =
-    let gives =
-    subst (λ r. GivesField c.loop-field.field-iterator (Some r) c.next.new.self) c.in_err-field.was
-    c.in-Some.ensures.steps in
+    let gives = rw c.in_err-field.was at c.in-Some.ensures.steps in
     let told : c.from_residual.result ≡ Err (Wire c.in_err-field.field-0.0) = search rules in
-    subst (λ r. IfErr r
-    (λ fault. (before after : List Field)
-    → NamesOne
-    (part_faults (value c.args.depth) Tables.array_value before c.args.part.now after) fault))
-    (sym told)
-    (row-fails
-    (value c.args.depth) Tables.array_value _ c.args.part.now _ _ c.loop-field.invariant.2 gives.0)
+    rw told
+    (row-fails (value c.args.depth) Tables.array_value _ c.args.part.now _ _
+    c.loop-field.invariant.2 gives.0)
 
 pub push_values-loop-field-preserved-in_default : goal.push_values-loop-field-preserved-in_default
 push_values-loop-field-preserved-in_default g t c =
-    let gives =
-    subst (λ r. GivesField c.loop-field.field-iterator (Some r) c.next.new.self) c.in_ok-field.was
-    c.in-Some.ensures.steps in (
+    let gives = rw c.in_ok-field.was at c.in-Some.ensures.steps in (
       tt,
       tt,
-      read-more (After (IsGathered (value c.args.depth) Tables.array_value)
-          (values_view c.args.values.now.items ▸ tt) (values_view c.loop-field.values.items ▸ tt))
-          (After (IsGathered (value c.args.depth) Tables.array_value)
-          (values_view c.args.values.now.items ▸ tt)
-          (values_view c.loop-field.values.items ▸ tt))
-          (row c.args.part.now) _ _ (field_of c.in_ok-field.field-0) c.loop-field.invariant.2 gives
-          (after-more (IsGathered (value c.args.depth) Tables.array_value)
-          (values_view c.args.values.now.items ▸ tt)
-          (values_view c.loop-field.values.items ▸ tt)
-          (values_view c.loop-field.values.items ▸ tt) (field_of c.in_ok-field.field-0)
-          (list-skips (value c.args.depth) any (values_view c.loop-field.values.items)
-          (field_of c.in_ok-field.field-0) (c.in_default.ensures (repeated any) refl))),
+      read-skips (value c.args.depth) any _ _ c.args.part.now _ _ _ c.loop-field.invariant.2
+          gives (c.in_default.ensures (repeated any) refl),
     )
 
 pub push_values-returns-in_err-read_value-clause-err :
     goal.push_values-returns-in_err-read_value-clause-err
 push_values-returns-in_err-read_value-clause-err g t c =
-    let gives =
-    subst (λ r. GivesField c.loop-field.field-iterator (Some r) c.next.new.self) c.in_ok-field.was
-    c.in-Some.ensures.steps in
+    let gives = rw c.in_ok-field.was at c.in-Some.ensures.steps in
     let told : c.from_residual-in_err-read_value.result ≡ Err c.in_err-read_value.field-0.0 =
     search rules in
-    subst (λ r. IfErr r
-    (λ fault. (before after : List Field)
-    → NamesOne
-    (part_faults (value c.args.depth) Tables.array_value before c.args.part.now after) fault))
-    (sym told)
-    (field-fails (value c.args.depth) Tables.array_value _ c.args.part.now _ _
-    (field_of c.in_ok-field.field-0) c.loop-field.invariant.2 gives c.in_err-read_value.field-0.0
-    (list-fails (value c.args.depth) any (field_of c.in_ok-field.field-0)
-    (len c.in-Some-bytes_in.content.now)
-    (c.in-Some-bytes_in.ensures (repeated any) refl) c.in_err-read_value.field-0.0
-    (subst (λ r. NamesOne r.faults c.in_err-read_value.field-0.0)
+    rw told
+    (read-fails (value c.args.depth) any _ _ c.args.part.now _ _ _ _
+    c.loop-field.invariant.2 gives (c.in-Some-bytes_in.ensures (repeated any) refl)
+    c.in_err-read_value.field-0.0 (subst (λ r. NamesOne r.faults c.in_err-read_value.field-0.0)
     (sym (any-reads (value c.args.depth) (len c.in-Some-bytes_in.content.now ∷ [])))
-    c.in_err-read_value.ensures.err)))
+    c.in_err-read_value.ensures.err))
 
 pub push_values-loop-field-preserved : goal.push_values-loop-field-preserved
 push_values-loop-field-preserved g t c =
-    let gives =
-    subst (λ r. GivesField c.loop-field.field-iterator (Some r) c.next.new.self) c.in_ok-field.was
-    c.in-Some.ensures.steps in
+    let gives = rw c.in_ok-field.was at c.in-Some.ensures.steps in
     let pushed =
     ap values_view c.in_ok-push.ensures.items
     ∙ map-append any_value_view c.loop-field.values.items (c.in_ok-read_value.field-0 ∷ []) in (
       tt,
       tt,
-      read-more (After (IsGathered (value c.args.depth) Tables.array_value)
-          (values_view c.args.values.now.items ▸ tt) (values_view c.loop-field.values.items ▸ tt))
-          (After (IsGathered (value c.args.depth) Tables.array_value)
-          (values_view c.args.values.now.items ▸ tt) (values_view c.push.new.self.items ▸ tt))
-          (row c.args.part.now) _ _ (field_of c.in_ok-field.field-0) c.loop-field.invariant.2 gives
-          (after-more (IsGathered (value c.args.depth) Tables.array_value)
-          (values_view c.args.values.now.items ▸ tt)
-          (values_view c.loop-field.values.items ▸ tt) (values_view c.push.new.self.items ▸ tt)
-          (field_of c.in_ok-field.field-0)
-          (list-more (value c.args.depth) any (values_view c.loop-field.values.items)
-          (values_view c.push.new.self.items) (any_value_view c.in_ok-read_value.field-0)
-          (field_of c.in_ok-field.field-0) (len c.in-Some-bytes_in.content.now)
-          (c.in-Some-bytes_in.ensures (repeated any) refl)
+      read-adds (value c.args.depth) any _ _ _ _ c.args.part.now _ _ _ _
+          c.loop-field.invariant.2 gives (c.in-Some-bytes_in.ensures (repeated any) refl)
           (subst (λ r. Reads r (any_value_view c.in_ok-read_value.field-0))
           (sym (any-reads (value c.args.depth) (len c.in-Some-bytes_in.content.now ∷ [])))
-          c.in_ok-read_value.ensures.ok)
-          pushed)),
+          c.in_ok-read_value.ensures.ok) pushed,
     )
 
 pub push_pairs-returns-in_err-field-clause-err : goal.push_pairs-returns-in_err-field-clause-err
 push_pairs-returns-in_err-field-clause-err g t c =
-    let gives =
-    subst (λ r. GivesField c.loop-field.field-iterator (Some r) c.next.new.self) c.in_err-field.was
-    c.in-Some.ensures.steps in
+    let gives = rw c.in_err-field.was at c.in-Some.ensures.steps in
     let told : c.from_residual.result ≡ Err (Wire c.in_err-field.field-0.0) = search rules in
-    subst (λ r. IfErr r
-    (λ fault. (before after : List Field)
-    → NamesOne
-    (part_faults (value c.args.depth) Tables.key_value_list before c.args.part.now after) fault))
-    (sym told)
+    rw told
     (row-fails (value c.args.depth) Tables.key_value_list _ c.args.part.now _ _
     c.loop-field.invariant.2 gives.0)
 
 pub push_pairs-loop-field-preserved-in_default : goal.push_pairs-loop-field-preserved-in_default
 push_pairs-loop-field-preserved-in_default g t c =
-    let gives =
-    subst (λ r. GivesField c.loop-field.field-iterator (Some r) c.next.new.self) c.in_ok-field.was
-    c.in-Some.ensures.steps in (
+    let gives = rw c.in_ok-field.was at c.in-Some.ensures.steps in (
       tt,
       tt,
-      read-more (After (IsGathered (value c.args.depth) Tables.key_value_list)
-          (pairs_view c.args.pairs.now.items ▸ tt) (pairs_view c.loop-field.pairs.items ▸ tt))
-          (After (IsGathered (value c.args.depth) Tables.key_value_list)
-          (pairs_view c.args.pairs.now.items ▸ tt) (pairs_view c.loop-field.pairs.items ▸ tt))
-          (row c.args.part.now) _ _ (field_of c.in_ok-field.field-0) c.loop-field.invariant.2 gives
-          (after-more (IsGathered (value c.args.depth) Tables.key_value_list)
-          (pairs_view c.args.pairs.now.items ▸ tt) (pairs_view c.loop-field.pairs.items ▸ tt)
-          (pairs_view c.loop-field.pairs.items ▸ tt) (field_of c.in_ok-field.field-0)
-          (list-skips (value c.args.depth) (message Tables.key_value)
-          (pairs_view c.loop-field.pairs.items) (field_of c.in_ok-field.field-0)
-          (c.in_default.ensures (repeated (message Tables.key_value)) refl))),
+      read-skips (value c.args.depth)
+          (message Tables.key_value) _ _ c.args.part.now _ _ _ c.loop-field.invariant.2
+          gives (c.in_default.ensures (repeated (message Tables.key_value)) refl),
     )
 
 pub push_pairs-returns-in_err-read_pair-clause-err :
     goal.push_pairs-returns-in_err-read_pair-clause-err
 push_pairs-returns-in_err-read_pair-clause-err g t c =
-    let gives =
-    subst (λ r. GivesField c.loop-field.field-iterator (Some r) c.next.new.self) c.in_ok-field.was
-    c.in-Some.ensures.steps in
+    let gives = rw c.in_ok-field.was at c.in-Some.ensures.steps in
     let told : c.from_residual-in_err-read_pair.result ≡ Err c.in_err-read_pair.field-0.0 =
     search rules in
-    subst (λ r. IfErr r
-    (λ fault. (before after : List Field)
-    → NamesOne
-    (part_faults (value c.args.depth) Tables.key_value_list before c.args.part.now after) fault))
-    (sym told)
-    (field-fails (value c.args.depth) Tables.key_value_list _ c.args.part.now _ _
-    (field_of c.in_ok-field.field-0) c.loop-field.invariant.2 gives c.in_err-read_pair.field-0.0
-    (list-fails (value c.args.depth) (message Tables.key_value) (field_of c.in_ok-field.field-0)
-    (len c.in-Some-bytes_in.content.now)
+    rw told
+    (read-fails (value c.args.depth) (message Tables.key_value) _ _ c.args.part.now _ _ _ _
+    c.loop-field.invariant.2 gives
     (c.in-Some-bytes_in.ensures (repeated (message Tables.key_value)) refl)
-    c.in_err-read_pair.field-0.0 c.in_err-read_pair.ensures.err))
+    c.in_err-read_pair.field-0.0 c.in_err-read_pair.ensures.err)
 
 pub push_pairs-loop-field-preserved : goal.push_pairs-loop-field-preserved
 push_pairs-loop-field-preserved g t c =
-    let gives =
-    subst (λ r. GivesField c.loop-field.field-iterator (Some r) c.next.new.self) c.in_ok-field.was
-    c.in-Some.ensures.steps in
+    let gives = rw c.in_ok-field.was at c.in-Some.ensures.steps in
     let pushed =
     ap pairs_view c.in_ok-push.ensures.items
     ∙ map-append pair_view c.loop-field.pairs.items (c.in_ok-read_pair.field-0 ∷ []) in (
       tt,
       tt,
-      read-more (After (IsGathered (value c.args.depth) Tables.key_value_list)
-          (pairs_view c.args.pairs.now.items ▸ tt) (pairs_view c.loop-field.pairs.items ▸ tt))
-          (After (IsGathered (value c.args.depth) Tables.key_value_list)
-          (pairs_view c.args.pairs.now.items ▸ tt) (pairs_view c.push.new.self.items ▸ tt))
-          (row c.args.part.now) _ _ (field_of c.in_ok-field.field-0) c.loop-field.invariant.2 gives
-          (after-more (IsGathered (value c.args.depth) Tables.key_value_list)
-          (pairs_view c.args.pairs.now.items ▸ tt) (pairs_view c.loop-field.pairs.items ▸ tt)
-          (pairs_view c.push.new.self.items ▸ tt) (field_of c.in_ok-field.field-0)
-          (list-more (value c.args.depth) (message Tables.key_value)
-          (pairs_view c.loop-field.pairs.items) (pairs_view c.push.new.self.items)
-          (pair_view c.in_ok-read_pair.field-0) (field_of c.in_ok-field.field-0)
-          (len c.in-Some-bytes_in.content.now)
+      read-adds (value c.args.depth) (message Tables.key_value) _ _ _ _ c.args.part.now _ _ _ _
+          c.loop-field.invariant.2 gives
           (c.in-Some-bytes_in.ensures (repeated (message Tables.key_value)) refl)
-          c.in_ok-read_pair.ensures.ok pushed)),
+          c.in_ok-read_pair.ensures.ok pushed,
     )
 
 pub read_values-loop-part-init : goal.read_values-loop-part-init
@@ -201,38 +121,23 @@ read_values-loop-part-init g t c =
 
 pub read_values-loop-part-preserved : goal.read_values-loop-part-preserved
 read_values-loop-part-preserved g t c =
-    let part =
-    get_or c.args.parts.now c.loop-part.part-index (record { ref_ptr = (0, 0); now = [] }) in
-    subst (IsKept (value c.args.depth) (message Tables.array_value)
-    (values_view c.push_values.new.values.items ▸ tt))
-    (sym (parts-through c.args.parts.now c.loop-part.part-index
-    (record { ref_ptr = (0, 0); now = [] }) c.loop-part-test.true))
-    (kept-part (value c.args.depth) Tables.array_value (values_view c.loop-part.values.items ▸ tt)
-    (values_view c.push_values.new.values.items ▸ tt) part.now c.in_ok-push_values.ensures.ok
-    c.in_ok-push_values.ensures.whole
-    (parts_view (take c.loop-part.part-index c.args.parts.now)) c.loop-part.invariant)
+    part-added (value c.args.depth) Tables.array_value c.args.parts.now c.loop-part.part-index _
+    c.loop-part-test.true _ _ c.in_ok-push_values.ensures.ok c.in_ok-push_values.ensures.whole
+    c.loop-part.invariant
 
 pub read_values-returns-in_err-push_values-clause-err :
     goal.read_values-returns-in_err-push_values-clause-err
 read_values-returns-in_err-push_values-clause-err g t c =
     let told : c.from_residual.result ≡ Err c.in_err-push_values.field-0.0 = grind arith in
-    subst (λ r. IfErr r
-    (λ fault. NamesOne
-    (read (value c.args.depth) (message Tables.array_value) (parts_view c.args.parts.now)).faults
-    fault))
-    (sym told)
-    (part-fails (value c.args.depth) Tables.array_value c.args.parts.now c.loop-part.part-index
-    (record { ref_ptr = (0, 0); now = [] }) c.loop-part-test.true c.in_err-push_values.field-0.0
-    c.in_err-push_values.ensures.err)
+    rw told
+    (part-fails (value c.args.depth) Tables.array_value c.args.parts.now c.loop-part.part-index _
+    c.loop-part-test.true c.in_err-push_values.field-0.0 c.in_err-push_values.ensures.err)
 
 pub read_values-returns-clause-ok : goal.read_values-returns-clause-ok
 read_values-returns-clause-ok g t c =
-    let all = take_all c.loop-part.part-index c.args.parts.now c.loop-part-test.false in
-    list-read (value c.args.depth) any (values_view c.loop-part.values.items)
-    (parts_view c.args.parts.now)
-    (subst (λ ps. IsKept (value c.args.depth) (message Tables.array_value)
-    (values_view c.loop-part.values.items ▸ tt) (parts_view ps))
-    all c.loop-part.invariant)
+    list-read (value c.args.depth) any _ _
+    (rw (take_all c.loop-part.part-index c.args.parts.now c.loop-part-test.false) at
+    c.loop-part.invariant)
 
 pub read_pairs-loop-part-init : goal.read_pairs-loop-part-init
 read_pairs-loop-part-init g t c =
@@ -241,70 +146,52 @@ read_pairs-loop-part-init g t c =
 
 pub read_pairs-loop-part-preserved : goal.read_pairs-loop-part-preserved
 read_pairs-loop-part-preserved g t c =
-    let part =
-    get_or c.args.parts.now c.loop-part.part-index (record { ref_ptr = (0, 0); now = [] }) in
-    subst (IsKept (value c.args.depth) (message Tables.key_value_list)
-    (pairs_view c.push_pairs.new.pairs.items ▸ tt))
-    (sym (parts-through c.args.parts.now c.loop-part.part-index
-    (record { ref_ptr = (0, 0); now = [] }) c.loop-part-test.true))
-    (kept-part (value c.args.depth) Tables.key_value_list (pairs_view c.loop-part.pairs.items ▸ tt)
-    (pairs_view c.push_pairs.new.pairs.items ▸ tt) part.now c.in_ok-push_pairs.ensures.ok
-    c.in_ok-push_pairs.ensures.whole
-    (parts_view (take c.loop-part.part-index c.args.parts.now)) c.loop-part.invariant)
+    part-added (value c.args.depth) Tables.key_value_list c.args.parts.now c.loop-part.part-index _
+    c.loop-part-test.true _ _ c.in_ok-push_pairs.ensures.ok c.in_ok-push_pairs.ensures.whole
+    c.loop-part.invariant
 
 pub read_pairs-returns-in_err-push_pairs-clause-err :
     goal.read_pairs-returns-in_err-push_pairs-clause-err
 read_pairs-returns-in_err-push_pairs-clause-err g t c =
     let told : c.from_residual.result ≡ Err c.in_err-push_pairs.field-0.0 = grind arith in
-    subst (λ r. IfErr r
-    (λ fault. NamesOne
-    (read (value c.args.depth) (message Tables.key_value_list) (parts_view c.args.parts.now)).faults
-    fault))
-    (sym told)
-    (part-fails (value c.args.depth) Tables.key_value_list c.args.parts.now c.loop-part.part-index
-    (record { ref_ptr = (0, 0); now = [] }) c.loop-part-test.true c.in_err-push_pairs.field-0.0
-    c.in_err-push_pairs.ensures.err)
+    rw told
+    (part-fails (value c.args.depth) Tables.key_value_list c.args.parts.now c.loop-part.part-index _
+    c.loop-part-test.true c.in_err-push_pairs.field-0.0 c.in_err-push_pairs.ensures.err)
 
 pub read_pairs-returns-clause-ok : goal.read_pairs-returns-clause-ok
 read_pairs-returns-clause-ok g t c =
-    let all = take_all c.loop-part.part-index c.args.parts.now c.loop-part-test.false in
-    list-read (value c.args.depth) (message Tables.key_value) (pairs_view c.loop-part.pairs.items)
-    (parts_view c.args.parts.now)
-    (subst (λ ps. IsKept (value c.args.depth) (message Tables.key_value_list)
-    (pairs_view c.loop-part.pairs.items ▸ tt) (parts_view ps))
-    all c.loop-part.invariant)
+    list-read (value c.args.depth) (message Tables.key_value) _ _
+    (rw (take_all c.loop-part.part-index c.args.parts.now c.loop-part-test.false) at
+    c.loop-part.invariant)
 
 -- ---- a value
 pub value_of-returns-in-Bool-clause-ok : goal.value_of-returns-in-Bool-clause-ok
 value_of-returns-in-Bool-clause-ok g t c =
     λ back h. is-done (member-bool (value c.args.depth) back c.in-Bool.number
-    (subst (λ m. Holds m back) c.in-Bool.is h))
+    (rw c.in-Bool.is at h))
     (view-Bool _ _)
 
 pub value_of-returns-in-Double-clause-ok : goal.value_of-returns-in-Double-clause-ok
 value_of-returns-in-Double-clause-ok g t c =
     λ back h. is-done (member-double (value c.args.depth) back c.in-Double.bits
-    (subst (λ m. Holds m back) c.in-Double.is h))
+    (rw c.in-Double.is at h))
     (view-Double _ _)
 
 pub value_of-returns-in-Int-clause-ok : goal.value_of-returns-in-Int-clause-ok
 value_of-returns-in-Int-clause-ok g t c = λ back h.
     let same : to_z w64 (of_z w64 c.cast_signed.result) ≡ c.cast_signed.result = search rules in
     is-done
-    (member-int (value c.args.depth) back c.in-Int.number (subst (λ m. Holds m back) c.in-Int.is h))
+    (member-int (value c.args.depth) back c.in-Int.number (rw c.in-Int.is at h))
     (view-Int _ _ ∙ ap AnyValue.int (same ∙ c.cast_signed.ensures))
 
 pub value_of-returns-in_err-read_text-in-Text-clause-err :
     goal.value_of-returns-in_err-read_text-in-Text-clause-err
 value_of-returns-in_err-read_text-in-Text-clause-err g t c =
     let told : c.from_residual.result ≡ Err c.in_err-read_text-in-Text.field-0.0 = search rules in
-    subst (λ r. IfErr r
-    (λ fault. (back : List Field) → Holds c.args.member back
-    → NamesOne (value_of (value c.args.depth) back).faults fault))
-    (sym told)
+    rw told
     (λ back h. subst (λ r. NamesOne r.faults c.in_err-read_text-in-Text.field-0.0)
     (sym (member-text (value c.args.depth) back c.in-Text.text.now
-    (subst (λ m. Holds m back) c.in-Text.is h)))
+    (rw c.in-Text.is at h)))
     (names-on (utf8 c.in-Text.text.now) AnyValue.text c.in_err-read_text-in-Text.field-0.0
     c.in_err-read_text-in-Text.ensures.err))
 
@@ -312,7 +199,7 @@ pub value_of-returns-in_ok-copy_bytes-in-Bytes-clause-ok :
     goal.value_of-returns-in_ok-copy_bytes-in-Bytes-clause-ok
 value_of-returns-in_ok-copy_bytes-in-Bytes-clause-ok g t c = λ back h.
     is-done (member-bytes (value c.args.depth) back c.in-Bytes.bytes.now
-    (subst (λ m. Holds m back) c.in-Bytes.is h))
+    (rw c.in-Bytes.is at h))
     (view-Bytes c.in_ok-copy_bytes-in-Bytes.field-0
     ∙ ap AnyValue.bytes c.in_ok-copy_bytes-in-Bytes.ensures)
 
@@ -320,7 +207,7 @@ pub value_of-returns-in_ok-read_text-in-Text-clause-ok :
     goal.value_of-returns-in_ok-read_text-in-Text-clause-ok
 value_of-returns-in_ok-read_text-in-Text-clause-ok g t c = λ back h.
     is-reading (member-text (value c.args.depth) back c.in-Text.text.now
-    (subst (λ m. Holds m back) c.in-Text.is h))
+    (rw c.in-Text.is at h))
     (reads-on (utf8 c.in-Text.text.now) AnyValue.text _ c.in_ok-read_text-in-Text.ensures.ok)
     (view-Text c.in_ok-read_text-in-Text.field-0)
 
@@ -343,9 +230,7 @@ pub read_value-returns-in_err-member-clause-err : goal.read_value-returns-in_err
 read_value-returns-in_err-member-clause-err g t c =
     let deep : c.args.depth ≡ suc (c.args.depth - 1) = omega arith in
     let told : c.from_residual.result ≡ Err c.in_err-member.field-0.0 = search rules in
-    subst (λ r.
-    IfErr r (λ fault. NamesOne (value c.args.depth (len c.args.content.now ∷ [])).faults fault))
-    (sym told)
+    rw told
     (subst (λ d. NamesOne (value d (len c.args.content.now ∷ [])).faults c.in_err-member.field-0.0)
     (sym deep)
     (row-of-value
@@ -378,11 +263,7 @@ read_value-returns-clause-ok g t c =
 pub read_pair-returns-in_err-key-clause-err : goal.read_pair-returns-in_err-key-clause-err
 read_pair-returns-in_err-key-clause-err g t c =
     let told : c.from_residual-in_err-key.result ≡ Err c.in_err-key.field-0.0 = search rules in
-    subst (λ r. IfErr r
-    (λ fault. NamesOne
-    (read (value c.args.depth) (message Tables.key_value) (len c.args.content.now ∷ [])).faults
-    fault))
-    (sym told)
+    rw told
     (key-fails c.args.depth c.in_ok-parts.parts c.args.content.now c.in_ok-parts.ensures.ok
     c.in_err-key.field-0.0 c.in_err-key.ensures.err)
 
@@ -390,11 +271,7 @@ pub read_pair-returns-in_err-value-clause-err : goal.read_pair-returns-in_err-va
 read_pair-returns-in_err-value-clause-err g t c =
     let deep : c.args.depth ≡ suc (c.args.depth - 1) = omega arith in
     let told : c.from_residual-in_err-value.result ≡ Err c.in_err-value.field-0.0 = search rules in
-    subst (λ r. IfErr r
-    (λ fault. NamesOne
-    (read (value c.args.depth) (message Tables.key_value) (len c.args.content.now ∷ [])).faults
-    fault))
-    (sym told)
+    rw told
     (value-fails c.args.depth c.in_ok-parts.parts c.args.content.now c.in_ok-parts.ensures.ok
     (c.args.depth - 1) deep c.in_err-value.field-0.0
     (c.in_err-value.ensures.err _ c.in_ok-parts.ensures.ok.value))

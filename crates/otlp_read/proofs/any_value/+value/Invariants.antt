@@ -1,13 +1,11 @@
 use Rattle.std.proofs.Common.{◌+◌, ◌*◌, take}
-use Rattle.model_message.specs.Wire.{row}
 use Rattle.model_message.specs.Tables
-use Rattle.model_message.specs.Tables.{message, ◌▸◌}
+use Rattle.model_message.specs.Tables.{message, any, ◌▸◌}
 use Rattle.model_message.specs.Messages.{value}
 use Rattle.otlp_read.specs.Values.{values_view, pairs_view}
-use Rattle.otlp_wire.specs.Gathering.{IsGathered, IsKept}
+use Rattle.otlp_wire.specs.Gathering.{IsKept}
 use Rattle.otlp_read.specs.Members.{parts_view}
-use Rattle.otlp_wire.proofs.FieldsRead.{FieldsRead}
-use Rattle.otlp_wire.proofs.GatherSteps.{After}
+use Rattle.otlp_read.proofs.ValueSteps.{ListRead}
 use Rattle.otlp_read.proofs.any_value.+value.Given as goal
 
 abbrev pub decreases-value_of : goal.decreases-value_of
@@ -35,17 +33,15 @@ abbrev pub invariant-push_values-loop-field : goal.invariant-push_values-loop-fi
 invariant-push_values-loop-field g l =
     (goal.iterator-push_values-loop-field g).can_next l.field-iterator ×
     (goal.iterator-push_values-loop-field g).is_finite l.field-iterator ×
-    FieldsRead (After (IsGathered (value l.depth) Tables.array_value)
-    (values_view l.fn.values.items ▸ tt) (values_view l.values.items ▸ tt))
-    (row l.part) l.field-iterator
+    ListRead (value l.depth) any (values_view l.fn.values.items) (values_view l.values.items) l.part
+    l.field-iterator
 
 abbrev pub invariant-push_pairs-loop-field : goal.invariant-push_pairs-loop-field
 invariant-push_pairs-loop-field g l =
     (goal.iterator-push_pairs-loop-field g).can_next l.field-iterator ×
     (goal.iterator-push_pairs-loop-field g).is_finite l.field-iterator ×
-    FieldsRead (After (IsGathered (value l.depth) Tables.key_value_list)
-    (pairs_view l.fn.pairs.items ▸ tt) (pairs_view l.pairs.items ▸ tt))
-    (row l.part) l.field-iterator
+    ListRead (value l.depth) (message Tables.key_value) (pairs_view l.fn.pairs.items)
+    (pairs_view l.pairs.items) l.part l.field-iterator
 
 abbrev pub invariant-read_values-loop-part : goal.invariant-read_values-loop-part
 invariant-read_values-loop-part g l =

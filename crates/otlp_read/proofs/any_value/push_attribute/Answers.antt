@@ -1,12 +1,11 @@
-use Rattle.std.proofs.Common.{◌≡◌, refl, sym, ap, subst, ◌∙◌, Err, IfErr, List, [], ◌∷◌, ◌++◌}
+use Rattle.std.proofs.Common.{◌≡◌, refl, sym, ap, subst, ◌∙◌, Err, [], ◌∷◌, ◌++◌}
 use Rattle.std.proofs.Common.{arith}
 use Rattle.std.proofs.lemmas.List.{map-append}
-use Rattle.model_message.specs.Wire.{Field, len}
+use Rattle.model_message.specs.Wire.{len}
 use Rattle.model_message.specs.Tables
 use Rattle.model_message.specs.Tables.{message, repeated}
 use Rattle.model_message.specs.Messages.{value, max_depth, read, payloads}
 use Rattle.otlp_wire.specs.Fields.{field_of}
-use Rattle.otlp_wire.specs.Faults.{NamesOne}
 use Rattle.otlp_wire.specs.Gathering.{IsKept, field_faults}
 use Rattle.otlp_read.specs.Values.{pairs_view, pair_view}
 use Rattle.otlp_wire.proofs.Named.{names-within}
@@ -23,12 +22,7 @@ pub returns-in_err-read_pair-clause-err : goal.returns-in_err-read_pair-clause-e
 returns-in_err-read_pair-clause-err g c =
     let told : c.from_residual.result ≡ Err c.in_err-read_pair.field-0.0 = grind arith in
     let content = c.in-Some.content.now in
-    subst (λ r. IfErr r
-    (λ fault. (before after : List Field)
-    → NamesOne (field_faults (repeated (message Tables.key_value)) c.args.number before
-    (field_of c.args.field) after)
-    fault))
-    (sym told)
+    rw told
     (λ before after. names-within
     (read (value max_depth) (message Tables.key_value) (len content ∷ [])).faults
     (field_faults (repeated (message Tables.key_value)) c.args.number before

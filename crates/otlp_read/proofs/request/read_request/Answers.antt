@@ -1,7 +1,6 @@
-use Rattle.std.proofs.Common.{◌≡◌, sym, subst, ◌∙◌, Err, IfErr, arith}
+use Rattle.std.proofs.Common.{◌≡◌, sym, subst, ◌∙◌, Err, arith}
 use Rattle.model_message.specs.Reading.{Reads}
 use Rattle.model_message.specs.Tables
-use Rattle.model_message.specs.Messages.{meaning}
 use Rattle.otlp_wire.specs.Faults.{NamesOne}
 use Rattle.otlp_read.specs.Requests.{request_view}
 use Rattle.otlp_wire.proofs.Finished.{meaning-is, on-ok, on-err}
@@ -10,8 +9,7 @@ use Rattle.otlp_read.proofs.request.read_request.Goals as goal
 pub returns-in_err-parts-clause-err : goal.returns-in_err-parts-clause-err
 returns-in_err-parts-clause-err g c =
     let told : c.from_residual.result ≡ Err c.in_err-parts.field-0.0 = grind arith in
-    subst (λ r. IfErr r (λ fault. NamesOne (meaning Tables.request c.args.body.now).faults fault))
-    (sym told)
+    rw told
     (subst (λ r. NamesOne r.faults c.in_err-parts.field-0.0)
     (sym (meaning-is Tables.request c.args.body.now)) c.in_err-parts.ensures.err)
 

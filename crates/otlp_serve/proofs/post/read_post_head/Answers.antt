@@ -7,4 +7,4 @@ pub copy_text-requires : goal.copy_text-requires
 copy_text-requires g c =
     subst IsUtf8
     (sym (c.of.ensures ∙ ap (λ t. span_bytes t c.in-Ok.head.method) c.deref-2.ensures.value))
-    (method_text _ _ _ _ c.in-Ok.ensures.head)
+    (method_text _ _ _ _ _ c.in-Ok.ensures.head.1)

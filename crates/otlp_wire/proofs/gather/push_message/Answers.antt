@@ -1,11 +1,10 @@
-use Rattle.std.proofs.Common.{◌≡◌, refl, sym, ap, subst, ◌∙◌, Err, IfErr, List, map, [], ◌∷◌, ◌++◌}
+use Rattle.std.proofs.Common.{◌≡◌, refl, sym, ap, subst, ◌∙◌, Err, map, [], ◌∷◌, ◌++◌}
 use Rattle.std.proofs.Common.{arith}
 use Rattle.std.proofs.lemmas.List.{map-append}
-use Rattle.model_message.specs.Wire.{Field, len}
+use Rattle.model_message.specs.Wire.{len}
 use Rattle.model_message.specs.Tables.{message, repeated}
 use Rattle.model_message.specs.Messages.{value, max_depth, read, payloads}
 use Rattle.otlp_wire.specs.Fields.{field_of}
-use Rattle.otlp_wire.specs.Faults.{NamesOne}
 use Rattle.otlp_wire.specs.Gathering.{IsKept, field_faults}
 use Rattle.otlp_wire.proofs.Named.{names-within}
 use Rattle.otlp_wire.proofs.GatherSteps.{repeated-skips, repeated-more, repeated-fails}
@@ -21,12 +20,7 @@ pub returns-in_err-read_message-clause-err : goal.returns-in_err-read_message-cl
 returns-in_err-read_message-clause-err g c =
     let told : c.from_residual.result ≡ Err c.in_err-read_message.field-0.0 = grind arith in
     let content = c.in-Some.content.now in
-    subst (λ r. IfErr r
-    (λ fault. (before after : List Field)
-    → NamesOne (field_faults (repeated (message g.G.GatherFields.table)) c.args.number before
-    (field_of c.args.field) after)
-    fault))
-    (sym told)
+    rw told
     (λ before after. names-within
     (read (value max_depth) (message g.G.GatherFields.table) (len content ∷ [])).faults
     (field_faults (repeated (message g.G.GatherFields.table)) c.args.number before

@@ -1,9 +1,10 @@
 use Rattle.otlp_wire.specs.Fields.{field_of}
-use Rattle.otlp_wire.proofs.OnePayload.{other-number, found-fixed64, no-fixed64}
+use Rattle.otlp_wire.proofs.OnePayload.{other-number, found-one, no-one, is-fixed64}
 use Rattle.otlp_wire.proofs.payloads.fixed64_in.Goals as goal
 
 pub returns-in_default : goal.returns-in_default
-returns-in_default c = no-fixed64 c.args.field c.args.number c.in_default.not-I64
+returns-in_default c =
+    no-one c.args.field c.args.number 1 (is-fixed64 c.args.field.payload c.in_default.not-I64)
 
 pub returns-then-field-number : goal.returns-then-field-number
 returns-then-field-number c =
@@ -11,4 +12,4 @@ returns-then-field-number c =
 
 pub returns : goal.returns
 returns c =
-    found-fixed64 c.args.field c.args.number c.in-I64.value c.in-I64.is c.if-field-number.false
+    found-one c.args.field c.args.number _ c.in-I64.is c.if-field-number.false

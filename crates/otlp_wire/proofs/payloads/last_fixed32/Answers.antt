@@ -1,10 +1,11 @@
-use Rattle.std.proofs.Common.{◌∙◌}
+use Rattle.std.proofs.Common.{◌∙◌, refl}
+use Rattle.model_message.specs.Wire.{i32}
 use Rattle.otlp_wire.specs.Fields.{field_of}
-use Rattle.otlp_wire.proofs.LastPayloads.{fixed32-more}
+use Rattle.otlp_wire.proofs.LastPayloads.{number-more}
 use Rattle.otlp_wire.proofs.payloads.last_fixed32.Goals as goal
 
 pub returns : goal.returns
 returns c =
     λ s w fields h. c.unwrap_or.ensures
-    ∙ fixed32-more c.args.number s fields (field_of c.args.field) _ c.args.before
+    ∙ number-more i32 (λ v. refl) c.args.number s fields (field_of c.args.field) _ c.args.before
     (c.fixed32_in.ensures s w) h

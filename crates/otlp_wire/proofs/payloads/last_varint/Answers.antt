@@ -1,4 +1,5 @@
-use Rattle.std.proofs.Common.{◌∙◌}
+use Rattle.std.proofs.Common.{◌∙◌, refl}
+use Rattle.model_message.specs.Wire.{varint}
 use Rattle.otlp_wire.specs.Fields.{field_of}
 use Rattle.otlp_wire.proofs.LastPayloads.{number-more}
 use Rattle.otlp_wire.proofs.payloads.last_varint.Goals as goal
@@ -6,5 +7,5 @@ use Rattle.otlp_wire.proofs.payloads.last_varint.Goals as goal
 pub returns : goal.returns
 returns c =
     λ s w fields h. c.unwrap_or.ensures
-    ∙ number-more c.args.number s fields (field_of c.args.field) _ c.args.before
+    ∙ number-more varint (λ v. refl) c.args.number s fields (field_of c.args.field) _ c.args.before
     (c.varint_in.ensures s w) h

@@ -1,9 +1,10 @@
 use Rattle.otlp_wire.specs.Fields.{field_of}
-use Rattle.otlp_wire.proofs.OnePayload.{other-number, found-varint, no-varint}
+use Rattle.otlp_wire.proofs.OnePayload.{other-number, found-one, no-one, is-varint}
 use Rattle.otlp_wire.proofs.payloads.varint_in.Goals as goal
 
 pub returns-in_default : goal.returns-in_default
-returns-in_default c = no-varint c.args.field c.args.number c.in_default.not-Varint
+returns-in_default c =
+    no-one c.args.field c.args.number 0 (is-varint c.args.field.payload c.in_default.not-Varint)
 
 pub returns-then-field-number : goal.returns-then-field-number
 returns-then-field-number c =
@@ -11,4 +12,4 @@ returns-then-field-number c =
 
 pub returns : goal.returns
 returns c =
-    found-varint c.args.field c.args.number c.in-Varint.value c.in-Varint.is c.if-field-number.false
+    found-one c.args.field c.args.number _ c.in-Varint.is c.if-field-number.false

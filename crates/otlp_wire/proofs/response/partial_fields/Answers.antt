@@ -1,7 +1,6 @@
-use Rattle.std.proofs.Common.{refl, sym, ◌∙◌, subst, Some, arith}
+use Rattle.std.proofs.Common.{refl, sym, ◌∙◌, arith}
 use Rattle.model_message.specs.Tables
 use Rattle.model_message.specs.Tables.{message}
-use Rattle.otlp_wire.specs.Fields.{GivesField}
 use Rattle.otlp_wire.proofs.ResponseSteps.{response-none, response-skips, response-more}
 use Rattle.otlp_wire.proofs.ResponseSteps.{response-fails}
 use Rattle.otlp_wire.proofs.response.partial_fields.Goals as goal
@@ -17,9 +16,7 @@ loop-field-init c = (
 
 pub loop-field-preserved-in_default : goal.loop-field-preserved-in_default
 loop-field-preserved-in_default c =
-    let gives =
-    subst (λ r. GivesField c.loop-field.field-iterator (Some r) c.next.new.self) c.in_ok-field.was
-    c.in-Some.ensures.steps in (
+    let gives = rw c.in_ok-field.was at c.in-Some.ensures.steps in (
       tt,
       tt,
       response-skips _ _ _ _ _ c.loop-field.invariant.2 gives
@@ -28,9 +25,7 @@ loop-field-preserved-in_default c =
 
 pub returns-in_err-counted-clause-err : goal.returns-in_err-counted-clause-err
 returns-in_err-counted-clause-err c =
-    let gives =
-    subst (λ r. GivesField c.loop-field.field-iterator (Some r) c.next.new.self) c.in_ok-field.was
-    c.in-Some.ensures.steps in
+    let gives = rw c.in_ok-field.was at c.in-Some.ensures.steps in
     let bad =
     response-fails _ _ _ _ _ c.in-Some-bytes_in.content.now _ c.loop-field.invariant.2 gives
     (c.in-Some-bytes_in.ensures (message Tables.partial_success) refl)
@@ -39,9 +34,7 @@ returns-in_err-counted-clause-err c =
 
 pub loop-field-preserved : goal.loop-field-preserved
 loop-field-preserved c =
-    let gives =
-    subst (λ r. GivesField c.loop-field.field-iterator (Some r) c.next.new.self) c.in_ok-field.was
-    c.in-Some.ensures.steps in (
+    let gives = rw c.in_ok-field.was at c.in-Some.ensures.steps in (
       tt,
       tt,
       response-more _ _ _ _ _ _ c.in-Some-bytes_in.content.now c.loop-field.invariant.2 gives

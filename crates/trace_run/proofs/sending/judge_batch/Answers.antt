@@ -1,6 +1,6 @@
 use Rattle.std.proofs.Common.{refl, sym, ap, ◌∙◌, inl, inr}
 use Rattle.std.specs.Prelude.{option_map}
-use Rattle.model_retry.specs.Retries.{fate_of}
+use Rattle.model_desk.specs.Retries.{fate_of}
 use Rattle.retry_core.specs.Retries.{fate_view, next_view}
 use Rattle.trace_history.specs.declared.answer.Answer.TheVariants.{Replied}
 use Rattle.trace_run.proofs.Settling.{can-settle}

@@ -1,7 +1,7 @@
 use Rattle.std.proofs.Common.{◌≡◌, refl, ap, arith, map, List, [], ◌∷◌, length, Bool, true, false}
 use Rattle.std.proofs.Common.{cond, ◌==◌, get_or}
 use Rattle.std.specs.List.{range_with_len}
-use Rattle.model_retry.specs.Retries.{Outcome}
+use Rattle.model_desk.specs.Retries.{Outcome}
 use Rattle.model_run.specs.Headline.{Attempt}
 use Rattle.worked_run.proofs.whole.numbers.Goals as goal
 

@@ -6,7 +6,7 @@ use Rattle.model_span.specs.Identifiers.{first_valid}
 use Rattle.model_span.specs.Spans.{span}
 use Rattle.model_span.specs.Starts.{started_span, ids_of, ids_words}
 use Rattle.model_export.specs.Export.{groups, body_length}
-use Rattle.model_retry.specs.Retries.{Outcome}
+use Rattle.model_desk.specs.Retries.{Outcome}
 use Rattle.model_desk.specs.Desks.{desk_of}
 use Rattle.model_run.specs.Steps.{Step}
 use Rattle.model_run.specs.History.{start_results_after}

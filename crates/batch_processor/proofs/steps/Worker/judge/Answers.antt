@@ -2,12 +2,13 @@ use Rattle.std.proofs.Common.{arith, ◌≡◌, ℕ, ◌+◌, ◌++◌, ◌∷�
 use Rattle.std.proofs.Common.{refl}
 use Rattle.std.specs.Prelude.{Some, option_map}
 use Rattle.model_processor.specs.AnyAccounts.{after_settle, worker, worker_in}
-use Rattle.batch_processor.specs.Views.{outcomes_view, setup_view}
+use Rattle.processor_account.specs.Views.{outcomes_view}
+use Rattle.batch_processor.specs.Views.{setup_view}
 use Rattle.batch_processor.specs.Working.{WorkerState, to_judge}
 use Rattle.std.proofs.lemmas.List.{length-map, map_push}
-use Rattle.model_retry.specs.Retries.{again, fate_of}
-use Rattle.model_retry.specs.Retries as model
-use Rattle.model_retry.specs.Waits.{next_after}
+use Rattle.model_desk.specs.Retries.{again, fate_of}
+use Rattle.model_desk.specs.Retries as model
+use Rattle.model_desk.specs.Waits.{next_after}
 use Rattle.retry_core.specs.Retries.{fate_view, next_view, outcome_view}
 use Rattle.batch_processor.specs.Holds.{IsSentBatchOf}
 use Rattle.batch_processor.proofs.Turns.{again_step, handed_out, settle_step, state_of}

@@ -1,5 +1,6 @@
 use Rattle.model_processor.specs.AnyAccounts.{after_handed, worker_in}
-use Rattle.batch_processor.specs.Views.{outcomes_view, setup_view}
+use Rattle.processor_account.specs.Views.{outcomes_view}
+use Rattle.batch_processor.specs.Views.{setup_view}
 use Rattle.batch_processor.proofs.Turns.{send_step, state_of, told_state}
 use Rattle.batch_processor.proofs.steps.Worker.send.Goals as goal
 

@@ -1,7 +1,8 @@
 use Rattle.std.proofs.Common.{rules, ◌≡◌}
 use Rattle.std.specs.Prelude.{None}
 use Rattle.model_processor.specs.AnyAccounts.{worker_in}
-use Rattle.batch_processor.specs.Views.{outcomes_view, setup_view}
+use Rattle.processor_account.specs.Views.{outcomes_view}
+use Rattle.batch_processor.specs.Views.{setup_view}
 use Rattle.batch_processor.proofs.Turns.{no_step, same_state, state_of, take_told}
 use Rattle.batch_processor.proofs.steps.Worker.take.Goals as goal
 

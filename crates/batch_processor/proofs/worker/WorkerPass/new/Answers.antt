@@ -1,9 +1,10 @@
 use Rattle.std.proofs.Common.{◌≡◌, false, [], List, ap, sym, subst, refl}
 use Rattle.std.specs.Prelude.{None}
-use Rattle.model_retry.specs.Retries.{Outcome}
+use Rattle.model_desk.specs.Retries.{Outcome}
 use Rattle.model_processor.specs.Worker.{WorkerAccount, new_worker}
 use Rattle.model_processor.specs.AnyAccounts.{worker_in}
-use Rattle.batch_processor.specs.Views.{outcomes_view, setup_view}
+use Rattle.processor_account.specs.Views.{outcomes_view}
+use Rattle.batch_processor.specs.Views.{setup_view}
 use Rattle.batch_processor.specs.Working.{IsPassWith}
 use Rattle.batch_processor.proofs.Turns.{pass_works, state_of}
 use Rattle.batch_processor.proofs.worker.WorkerPass.new.Goals as goal

@@ -7,8 +7,9 @@ pub returns-in-Ok : goal.returns-in-Ok
 returns-in-Ok g c = (
   _,
   replied c.send.new.link _
-      (rw (← c.self.view_is) c.in-Ok.ensures.sent) c.read-reply.ensures c.outcome_of.ensures refl,
-  c.failure_of.ensures,
+      (rw (← c.self.view_is) c.in-Ok.ensures.sent) c.read-reply.ensures c.met_by.ensures.outcome
+      refl,
+  c.met_by.ensures.failure,
 )
 
 pub returns-in-Err : goal.returns-in-Err

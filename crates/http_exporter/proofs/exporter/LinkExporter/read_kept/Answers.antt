@@ -6,14 +6,14 @@ pub returns-in-Ok : goal.returns-in-Ok
 returns-in-Ok g c =
     rw (← c.self.view_is) (
       _,
-      read _ c.in-Ok.ensures.reply.0 c.in-Ok.ensures.reply.1 c.outcome_of.ensures refl,
-      c.failure_of.ensures,
+      read _ c.in-Ok.ensures.reply.0 c.in-Ok.ensures.reply.1 c.met_by-outcome.ensures.outcome refl,
+      c.met_by-outcome.ensures.failure,
     )
 
 pub returns-in-Err : goal.returns-in-Err
 returns-in-Err g c =
     rw (← c.self.view_is) (
       _,
-      none _ c.in-Err.ensures.no_reply refl c.outcome_of-in-Err.ensures refl,
-      c.failure_of-in-Err.ensures,
+      none _ c.in-Err.ensures.no_reply refl c.met_by-outcome-in-Err.ensures.outcome refl,
+      c.met_by-outcome-in-Err.ensures.failure,
     )

@@ -1,19 +1,13 @@
-use Rattle.std.proofs.Common.{◌∙◌, refl, subst, sym}
-use Rattle.http_exporter.specs.Kept.{kept, redialed}
+use Rattle.std.proofs.Common.{refl}
+use Rattle.http_exporter.specs.Kept.{dialed, kept}
 use Rattle.http_exporter.proofs.kept.KeptExporter.link.Goals as goal
 
-pub returns-then-renew-clause-gets : goal.returns-then-renew-clause-gets
-returns-then-renew-clause-gets g c =
+pub returns-in-Some-clause-gets : goal.returns-in-Some-clause-gets
+returns-in-Some-clause-gets g c =
     rw (← c.self.view_is)
-    (kept c.in-Some.link c.renew.new.self (sym c.take.ensures.value ∙ c.in-Some.is)
-    (subst (λ b. g.D.Link.KeptLink.renews c.in-Some.link b c.renew.new.self) c.if-renew.true
-    c.renew.ensures)
-    refl refl)
+    (kept c.in-Some.link (rw (c.take.ensures.value) at c.in-Some.ensures) refl refl)
 
-pub returns-clause-gets : goal.returns-clause-gets
-returns-clause-gets g c =
+pub returns-in-None-clause-gets : goal.returns-in-None-clause-gets
+returns-in-None-clause-gets g c =
     rw (← c.self.view_is)
-    (redialed c.in-Some.link c.renew.new.self (sym c.take.ensures.value ∙ c.in-Some.is)
-    (subst (λ b. g.D.Link.KeptLink.renews c.in-Some.link b c.renew.new.self) c.if-renew.false
-    c.renew.ensures)
-    c.dial-2.ensures.dialed)
+    (dialed (rw (c.take.ensures.value) at c.in-None.ensures) c.dial.ensures.dialed)

@@ -1,6 +1,6 @@
-use Rattle.std.proofs.Common.{sym, ◌∙◌, subst, Some}
+use Rattle.std.proofs.Common.{sym, ◌∙◌}
 use Rattle.model_message.specs.Wire.{row}
-use Rattle.otlp_wire.specs.Fields.{GivesField, field_of}
+use Rattle.otlp_wire.specs.Fields.{field_of}
 use Rattle.otlp_wire.proofs.FieldsRead.{read-none, read-more}
 use Rattle.otlp_read.proofs.MemberSteps.{Leads, leads-none, leads-more}
 use Rattle.otlp_read.proofs.any_value.Member.with_fields.Goals as goal
@@ -16,9 +16,7 @@ loop-field-init g c = (
 
 pub loop-field-preserved : goal.loop-field-preserved
 loop-field-preserved g c =
-    let gives =
-    subst (λ r. GivesField c.loop-field.field-iterator (Some r) c.next.new.self) c.in_ok-field.was
-    c.in-Some.ensures.steps in
+    let gives = rw c.in_ok-field.was at c.in-Some.ensures.steps in
     let f = field_of c.in_ok-field.field-0 in (
       tt,
       tt,

@@ -1,10 +1,8 @@
-use Rattle.std.proofs.Common.{◌≡◌, refl, sym, ◌∙◌, subst, Some, rules, Err, IfErr, [], ◌∷◌}
-use Rattle.model_message.specs.Wire.{row, len}
+use Rattle.std.proofs.Common.{◌≡◌, refl, sym, ◌∙◌, rules, Err, []}
+use Rattle.model_message.specs.Wire.{row}
 use Rattle.model_message.specs.Tables
-use Rattle.model_message.specs.Tables.{message}
-use Rattle.model_message.specs.Messages.{value, read}
-use Rattle.otlp_wire.specs.Fields.{GivesField, field_of}
-use Rattle.otlp_wire.specs.Faults.{NamesOne}
+use Rattle.model_message.specs.Messages.{value}
+use Rattle.otlp_wire.specs.Fields.{field_of}
 use Rattle.otlp_read.specs.Members.{HoldsPair}
 use Rattle.otlp_wire.specs.declared.fault.ReadFault.TheVariants.{Wire}
 use Rattle.otlp_wire.proofs.FieldsRead.{read-none, read-more}
@@ -23,47 +21,33 @@ loop-field-init g c = (
 
 pub returns-in_err-field-clause-err : goal.returns-in_err-field-clause-err
 returns-in_err-field-clause-err g c =
-    let gives =
-    subst (λ r. GivesField c.loop-field.field-iterator (Some r) c.next.new.self) c.in_err-field.was
-    c.in-Some.ensures.steps in
+    let gives = rw c.in_err-field.was at c.in-Some.ensures.steps in
     let told : c.from_residual.result ≡ Err (Wire c.in_err-field.field-0.0) = search rules in
     let bad =
     row-fails (value c.args.depth) Tables.key_value
     (HoldsPair c.args.depth c.loop-field.parts) c.args.content.now _ _ c.loop-field.invariant.2
     gives.0 in
-    subst (λ r. IfErr r
-    (λ fault. NamesOne
-    (read (value c.args.depth) (message Tables.key_value) (len c.args.content.now ∷ [])).faults
-    fault))
-    (sym told)
+    rw told
     (part-names (value c.args.depth) Tables.key_value [] [] c.args.content.now
     (Wire c.in_err-field.field-0.0) (bad _ _))
 
 pub returns-in_err-parts-clause-err : goal.returns-in_err-parts-clause-err
 returns-in_err-parts-clause-err g c =
-    let gives =
-    subst (λ r. GivesField c.loop-field.field-iterator (Some r) c.next.new.self) c.in_ok-field.was
-    c.in-Some.ensures.steps in
+    let gives = rw c.in_ok-field.was at c.in-Some.ensures.steps in
     let told : c.from_residual-in_err-parts.result ≡ Err c.in_err-parts.field-0.0 = search rules in
     let bad =
     field-fails (value c.args.depth) Tables.key_value
     (HoldsPair c.args.depth c.loop-field.parts) c.args.content.now _ _
     (field_of c.in_ok-field.field-0) c.loop-field.invariant.2 gives c.in_err-parts.field-0.0
     c.in_err-parts.ensures.err in
-    subst (λ r. IfErr r
-    (λ fault. NamesOne
-    (read (value c.args.depth) (message Tables.key_value) (len c.args.content.now ∷ [])).faults
-    fault))
-    (sym told)
+    rw told
     (part-names
     (value c.args.depth) Tables.key_value [] [] c.args.content.now c.in_err-parts.field-0.0
     (bad _ _))
 
 pub loop-field-preserved : goal.loop-field-preserved
 loop-field-preserved g c =
-    let gives =
-    subst (λ r. GivesField c.loop-field.field-iterator (Some r) c.next.new.self) c.in_ok-field.was
-    c.in-Some.ensures.steps in (
+    let gives = rw c.in_ok-field.was at c.in-Some.ensures.steps in (
       tt,
       tt,
       read-more (HoldsPair c.args.depth c.loop-field.parts)

@@ -1,9 +1,7 @@
-use Rattle.std.proofs.Common.{◌≡◌, refl, sym, subst, arith, rules, Err, IfErr, List, ◌∷◌, ◌++◌}
-use Rattle.model_message.specs.Wire.{Field}
-use Rattle.otlp_wire.specs.Faults.{NamesOne}
+use Rattle.std.proofs.Common.{◌≡◌, refl, arith, rules, Err}
 use Rattle.model_message.specs.Tables.{text, any}
 use Rattle.otlp_wire.specs.Fields.{field_of}
-use Rattle.otlp_read.proofs.PairSteps.{pair_faults, pair-skips, pair-more, pair-too-deep}
+use Rattle.otlp_read.proofs.PairSteps.{pair-skips, pair-more, pair-too-deep}
 use Rattle.otlp_read.proofs.PairSteps.{pair-row-fault}
 use Rattle.otlp_read.proofs.any_value.PairParts.with.Goals as goal
 
@@ -24,10 +22,8 @@ returns-in_err-value-clause-err g c =
     pair-row-fault (field_of c.args.field) c.in-Some.content.now
     (c.in-Some.ensures any refl) c.args.depth deep _ c.in_err-value.ensures.err in
     let told : c.from_residual.result ≡ Err c.in_err-value.field-0.0 = search rules in
-    subst (λ r. IfErr r
-    (λ fault. (before after : List Field)
-    → NamesOne (pair_faults c.args.depth (before ++ field_of c.args.field ∷ after)) fault))
-    (sym told) bad
+    rw told
+    bad
 
 pub returns-clause-ok : goal.returns-clause-ok
 returns-clause-ok g c =

@@ -1,43 +1,24 @@
-use Rattle.std.proofs.Common.{◌≡◌, refl, sym, subst, Err, IfErr, List, ◌∷◌, ◌++◌, arith}
-use Rattle.model_message.specs.Wire.{Field}
+use Rattle.std.proofs.Common.{refl, arith}
 use Rattle.model_message.specs.Tables
-use Rattle.model_message.specs.Tables.{message, repeated, text}
-use Rattle.model_message.specs.Messages.{value, max_depth, read_table}
+use Rattle.model_message.specs.Tables.{text, ◌▸◌}
 use Rattle.otlp_wire.specs.Fields.{field_of}
-use Rattle.otlp_wire.specs.Faults.{NamesOne}
-use Rattle.otlp_wire.proofs.Finished.{place-fails}
+use Rattle.otlp_read.proofs.TableSteps.{gathers-more, take-fails}
 use Rattle.otlp_read.proofs.request.ScopeSpansPartsGatherFields.take.Goals as goal
 
 pub returns-in_err-take_in-clause-err : goal.returns-in_err-take_in-clause-err
 returns-in_err-take_in-clause-err g c =
-    let told : c.from_residual.result ≡ Err c.in_err-take_in.field-0.0 = grind arith in
-    subst (λ r. IfErr r
-    (λ fault. (before after : List Field)
-    → NamesOne (read_table (value max_depth) Tables.scope_spans
-    (before ++ (field_of c.args.field) ∷ after)).faults
-    fault))
-    (sym told)
-    (place-fails 0 Tables.scope_spans _ 1 (message Tables.scope) refl
-    (field_of c.args.field) c.in_err-take_in.field-0.0 c.in_err-take_in.ensures.err)
+    take-fails 0 Tables.scope_spans refl (field_of c.args.field) c.in_err-take_in.ensures.err
+    (grind arith)
 
 pub returns-in_err-push_message-clause-err : goal.returns-in_err-push_message-clause-err
 returns-in_err-push_message-clause-err g c =
-    let told : c.from_residual-in_err-push_message.result ≡ Err c.in_err-push_message.field-0.0 =
-    grind arith in
-    subst (λ r. IfErr r
-    (λ fault. (before after : List Field)
-    → NamesOne (read_table (value max_depth) Tables.scope_spans
-    (before ++ (field_of c.args.field) ∷ after)).faults
-    fault))
-    (sym told)
-    (place-fails 1 Tables.scope_spans _ 2 (repeated (message Tables.span)) refl
-    (field_of c.args.field) c.in_err-push_message.field-0.0 c.in_err-push_message.ensures.err)
+    take-fails 1 Tables.scope_spans refl (field_of c.args.field) c.in_err-push_message.ensures.err
+    (grind arith)
 
 pub returns-clause-ok : goal.returns-clause-ok
-returns-clause-ok g c = λ fields h. (
-  c.in_ok-take_in.ensures.ok fields h.0,
-  (
-    c.in_ok-push_message.ensures.ok fields h.1.0,
-    (c.last_bytes-self.ensures text refl fields h.1.1.0, tt),
-  ),
-)
+returns-clause-ok g c =
+    gathers-more Tables.scope_spans _ _ (field_of c.args.field)
+    (c.in_ok-take_in.ensures.ok
+    ▸ c.in_ok-push_message.ensures.ok
+    ▸ c.last_bytes-self.ensures text refl
+    ▸ tt)

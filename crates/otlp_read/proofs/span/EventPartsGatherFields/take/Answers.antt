@@ -1,33 +1,20 @@
-use Rattle.std.proofs.Common.{◌≡◌, refl, sym, subst, Err, IfErr, List, ◌∷◌, ◌++◌, arith}
-use Rattle.model_message.specs.Wire.{Field}
+use Rattle.std.proofs.Common.{refl, arith}
 use Rattle.model_message.specs.Tables
-use Rattle.model_message.specs.Tables.{message, repeated, text, uint32, fixed64}
-use Rattle.model_message.specs.Messages.{value, max_depth, read_table}
+use Rattle.model_message.specs.Tables.{text, uint32, fixed64, ◌▸◌}
 use Rattle.otlp_wire.specs.Fields.{field_of}
-use Rattle.otlp_wire.specs.Faults.{NamesOne}
-use Rattle.otlp_wire.proofs.Finished.{place-fails}
+use Rattle.otlp_read.proofs.TableSteps.{gathers-more, take-fails}
 use Rattle.otlp_read.proofs.span.EventPartsGatherFields.take.Goals as goal
 
 pub returns-in_err-push_attribute-clause-err : goal.returns-in_err-push_attribute-clause-err
 returns-in_err-push_attribute-clause-err g c =
-    let told : c.from_residual.result ≡ Err c.in_err-push_attribute.field-0.0 = grind arith in
-    subst (λ r. IfErr r
-    (λ fault. (before after : List Field)
-    → NamesOne
-    (read_table (value max_depth) Tables.event (before ++ (field_of c.args.field) ∷ after)).faults
-    fault))
-    (sym told)
-    (place-fails 2 Tables.event _ 3 (repeated (message Tables.key_value)) refl
-    (field_of c.args.field) c.in_err-push_attribute.field-0.0 c.in_err-push_attribute.ensures.err)
+    take-fails 2 Tables.event refl (field_of c.args.field) c.in_err-push_attribute.ensures.err
+    (grind arith)
 
 pub returns-clause-ok : goal.returns-clause-ok
-returns-clause-ok g c = λ fields h. (
-  c.last_fixed64-self.ensures fixed64 refl fields h.0,
-  (
-    c.last_bytes-self.ensures text refl fields h.1.0,
-    (
-      c.in_ok-push_attribute.ensures.ok fields h.1.1.0,
-      (c.last_varint-self.ensures uint32 refl fields h.1.1.1.0, tt),
-    ),
-  ),
-)
+returns-clause-ok g c =
+    gathers-more Tables.event _ _ (field_of c.args.field)
+    (c.last_fixed64-self.ensures fixed64 refl
+    ▸ c.last_bytes-self.ensures text refl
+    ▸ c.in_ok-push_attribute.ensures.ok
+    ▸ c.last_varint-self.ensures uint32 refl
+    ▸ tt)

@@ -1,33 +1,10 @@
-use Rattle.std.proofs.Common.{◌≡◌, sym, subst, Err, IfErr, arith}
+use Rattle.std.proofs.Common.{arith}
 use Rattle.model_message.specs.Tables
-use Rattle.model_message.specs.Tables.{message, repeated, text, bytes, uint32}
-use Rattle.model_message.specs.Tables.{fixed32, end, ◌⦂◌◂◌}
-use Rattle.model_message.specs.Messages.{value, max_depth}
-use Rattle.otlp_wire.specs.Faults.{NamesOne}
-use Rattle.otlp_wire.specs.Gathering.{finished}
 use Rattle.otlp_read.specs.Spans.{link_gathered}
-use Rattle.otlp_wire.proofs.Named.{names-within}
-use Rattle.otlp_wire.proofs.Finished.{finished-first, finished-others}
+use Rattle.otlp_read.proofs.TableSteps.{finish-fails}
 use Rattle.otlp_read.proofs.span.LinkPartsGatherFields.finish.Goals as goal
 
 pub returns-in_err-read_text-clause-err : goal.returns-in_err-read_text-clause-err
 returns-in_err-read_text-clause-err g c =
-    let told : c.from_residual-in_err-read_text.result ≡ Err c.in_err-read_text.field-0.0 =
-    grind arith in
-    subst (λ r. IfErr r
-    (λ fault. NamesOne
-    (finished (value max_depth) (message Tables.link) (link_gathered c.args.self)).faults fault))
-    (sym told)
-    (names-within (finished (value max_depth) (text) ((link_gathered c.args.self).1.1.0)).faults
-    (finished (value max_depth) (message Tables.link) (link_gathered c.args.self)).faults
-    (λ y h. (finished-others (value max_depth) 1 (bytes)
-    (2 ⦂ bytes ◂ 3 ⦂ text ◂ 4 ⦂ repeated (message Tables.key_value) ◂ 5 ⦂ uint32 ◂ 6 ⦂ fixed32
-    ◂ end)
-    ((link_gathered c.args.self)) y
-    (finished-others (value max_depth) 2 (bytes)
-    (3 ⦂ text ◂ 4 ⦂ repeated (message Tables.key_value) ◂ 5 ⦂ uint32 ◂ 6 ⦂ fixed32 ◂ end)
-    ((link_gathered c.args.self).1) y
-    (finished-first (value max_depth) 3 (text)
-    (4 ⦂ repeated (message Tables.key_value) ◂ 5 ⦂ uint32 ◂ 6 ⦂ fixed32 ◂ end)
-    ((link_gathered c.args.self).1.1) y h))))
-    c.in_err-read_text.field-0.0 c.in_err-read_text.ensures.err)
+    finish-fails 2 Tables.link (link_gathered c.args.self) c.in_err-read_text.ensures.err
+    (grind arith)

@@ -1,162 +1,20 @@
-use Rattle.std.proofs.Common.{◌≡◌, sym, subst, Err, IfErr, arith}
+use Rattle.std.proofs.Common.{arith}
 use Rattle.model_message.specs.Tables
-use Rattle.model_message.specs.Tables.{message, repeated, text, bytes, uint32, enum, fixed64}
-use Rattle.model_message.specs.Tables.{fixed32, end, ◌⦂◌◂◌}
-use Rattle.model_message.specs.Messages.{value, max_depth}
-use Rattle.otlp_wire.specs.Faults.{NamesOne}
-use Rattle.otlp_wire.specs.Gathering.{finished}
 use Rattle.otlp_read.specs.Spans.{span_gathered}
-use Rattle.otlp_wire.proofs.Named.{names-within}
-use Rattle.otlp_wire.proofs.Finished.{finished-first, finished-others}
+use Rattle.otlp_read.proofs.TableSteps.{finish-fails}
 use Rattle.otlp_read.proofs.span.SpanPartsGatherFields.finish.Goals as goal
 
 pub returns-in_err-read_text-clause-err : goal.returns-in_err-read_text-clause-err
 returns-in_err-read_text-clause-err g c =
-    let told : c.from_residual-in_err-read_text.result ≡ Err c.in_err-read_text.field-0.0 =
-    grind arith in
-    subst (λ r. IfErr r
-    (λ fault. NamesOne
-    (finished (value max_depth) (message Tables.span) (span_gathered c.args.self)).faults fault))
-    (sym told)
-    (names-within (finished (value max_depth) (text) ((span_gathered c.args.self).1.1.0)).faults
-    (finished (value max_depth) (message Tables.span) (span_gathered c.args.self)).faults
-    (λ y h. (finished-others (value max_depth) 1 (bytes)
-    (2 ⦂ bytes ◂ 3 ⦂ text ◂ 4 ⦂ bytes ◂ 5 ⦂ text ◂ 6 ⦂ enum ◂ 7 ⦂ fixed64 ◂ 8 ⦂ fixed64
-    ◂ 9 ⦂ repeated (message Tables.key_value) ◂ 10 ⦂ uint32 ◂ 11 ⦂ repeated (message Tables.event)
-    ◂ 12 ⦂ uint32 ◂ 13 ⦂ repeated (message Tables.link) ◂ 14 ⦂ uint32 ◂ 15 ⦂ message Tables.status
-    ◂ 16 ⦂ fixed32 ◂ end)
-    ((span_gathered c.args.self)) y
-    (finished-others (value max_depth) 2 (bytes)
-    (3 ⦂ text ◂ 4 ⦂ bytes ◂ 5 ⦂ text ◂ 6 ⦂ enum ◂ 7 ⦂ fixed64 ◂ 8 ⦂ fixed64
-    ◂ 9 ⦂ repeated (message Tables.key_value) ◂ 10 ⦂ uint32 ◂ 11 ⦂ repeated (message Tables.event)
-    ◂ 12 ⦂ uint32 ◂ 13 ⦂ repeated (message Tables.link) ◂ 14 ⦂ uint32 ◂ 15 ⦂ message Tables.status
-    ◂ 16 ⦂ fixed32 ◂ end)
-    ((span_gathered c.args.self).1) y
-    (finished-first (value max_depth) 3 (text)
-    (4 ⦂ bytes ◂ 5 ⦂ text ◂ 6 ⦂ enum ◂ 7 ⦂ fixed64 ◂ 8 ⦂ fixed64
-    ◂ 9 ⦂ repeated (message Tables.key_value) ◂ 10 ⦂ uint32 ◂ 11 ⦂ repeated (message Tables.event)
-    ◂ 12 ⦂ uint32 ◂ 13 ⦂ repeated (message Tables.link) ◂ 14 ⦂ uint32 ◂ 15 ⦂ message Tables.status
-    ◂ 16 ⦂ fixed32 ◂ end)
-    ((span_gathered c.args.self).1.1) y h))))
-    c.in_err-read_text.field-0.0 c.in_err-read_text.ensures.err)
+    finish-fails 2 Tables.span (span_gathered c.args.self) c.in_err-read_text.ensures.err
+    (grind arith)
 
 pub returns-in_err-read_text-2-clause-err : goal.returns-in_err-read_text-2-clause-err
 returns-in_err-read_text-2-clause-err g c =
-    let told : c.from_residual-in_err-read_text-2.result ≡ Err c.in_err-read_text-2.field-0.0 =
-    grind arith in
-    subst (λ r. IfErr r
-    (λ fault. NamesOne
-    (finished (value max_depth) (message Tables.span) (span_gathered c.args.self)).faults fault))
-    (sym told)
-    (names-within (finished (value max_depth) (text) ((span_gathered c.args.self).1.1.1.1.0)).faults
-    (finished (value max_depth) (message Tables.span) (span_gathered c.args.self)).faults
-    (λ y h. (finished-others (value max_depth) 1 (bytes)
-    (2 ⦂ bytes ◂ 3 ⦂ text ◂ 4 ⦂ bytes ◂ 5 ⦂ text ◂ 6 ⦂ enum ◂ 7 ⦂ fixed64 ◂ 8 ⦂ fixed64
-    ◂ 9 ⦂ repeated (message Tables.key_value) ◂ 10 ⦂ uint32 ◂ 11 ⦂ repeated (message Tables.event)
-    ◂ 12 ⦂ uint32 ◂ 13 ⦂ repeated (message Tables.link) ◂ 14 ⦂ uint32 ◂ 15 ⦂ message Tables.status
-    ◂ 16 ⦂ fixed32 ◂ end)
-    ((span_gathered c.args.self)) y
-    (finished-others (value max_depth) 2 (bytes)
-    (3 ⦂ text ◂ 4 ⦂ bytes ◂ 5 ⦂ text ◂ 6 ⦂ enum ◂ 7 ⦂ fixed64 ◂ 8 ⦂ fixed64
-    ◂ 9 ⦂ repeated (message Tables.key_value) ◂ 10 ⦂ uint32 ◂ 11 ⦂ repeated (message Tables.event)
-    ◂ 12 ⦂ uint32 ◂ 13 ⦂ repeated (message Tables.link) ◂ 14 ⦂ uint32 ◂ 15 ⦂ message Tables.status
-    ◂ 16 ⦂ fixed32 ◂ end)
-    ((span_gathered c.args.self).1) y
-    (finished-others (value max_depth) 3 (text)
-    (4 ⦂ bytes ◂ 5 ⦂ text ◂ 6 ⦂ enum ◂ 7 ⦂ fixed64 ◂ 8 ⦂ fixed64
-    ◂ 9 ⦂ repeated (message Tables.key_value) ◂ 10 ⦂ uint32 ◂ 11 ⦂ repeated (message Tables.event)
-    ◂ 12 ⦂ uint32 ◂ 13 ⦂ repeated (message Tables.link) ◂ 14 ⦂ uint32 ◂ 15 ⦂ message Tables.status
-    ◂ 16 ⦂ fixed32 ◂ end)
-    ((span_gathered c.args.self).1.1) y
-    (finished-others (value max_depth) 4 (bytes)
-    (5 ⦂ text ◂ 6 ⦂ enum ◂ 7 ⦂ fixed64 ◂ 8 ⦂ fixed64 ◂ 9 ⦂ repeated (message Tables.key_value)
-    ◂ 10 ⦂ uint32 ◂ 11 ⦂ repeated (message Tables.event) ◂ 12 ⦂ uint32
-    ◂ 13 ⦂ repeated (message Tables.link) ◂ 14 ⦂ uint32 ◂ 15 ⦂ message Tables.status ◂ 16 ⦂ fixed32
-    ◂ end)
-    ((span_gathered c.args.self).1.1.1) y
-    (finished-first (value max_depth) 5 (text)
-    (6 ⦂ enum ◂ 7 ⦂ fixed64 ◂ 8 ⦂ fixed64 ◂ 9 ⦂ repeated (message Tables.key_value) ◂ 10 ⦂ uint32
-    ◂ 11 ⦂ repeated (message Tables.event) ◂ 12 ⦂ uint32 ◂ 13 ⦂ repeated (message Tables.link)
-    ◂ 14 ⦂ uint32 ◂ 15 ⦂ message Tables.status ◂ 16 ⦂ fixed32 ◂ end)
-    ((span_gathered c.args.self).1.1.1.1) y h))))))
-    c.in_err-read_text-2.field-0.0 c.in_err-read_text-2.ensures.err)
+    finish-fails 4 Tables.span (span_gathered c.args.self) c.in_err-read_text-2.ensures.err
+    (grind arith)
 
 pub returns-in_err-finish-clause-err : goal.returns-in_err-finish-clause-err
 returns-in_err-finish-clause-err g c =
-    let told : c.from_residual-in_err-finish.result ≡ Err c.in_err-finish.field-0.0 = grind arith in
-    subst (λ r. IfErr r
-    (λ fault. NamesOne
-    (finished (value max_depth) (message Tables.span) (span_gathered c.args.self)).faults fault))
-    (sym told)
-    (names-within (finished (value max_depth) (message Tables.status)
-    ((span_gathered c.args.self).1.1.1.1.1.1.1.1.1.1.1.1.1.1.0)).faults
-    (finished (value max_depth) (message Tables.span) (span_gathered c.args.self)).faults
-    (λ y h. (finished-others (value max_depth) 1 (bytes)
-    (2 ⦂ bytes ◂ 3 ⦂ text ◂ 4 ⦂ bytes ◂ 5 ⦂ text ◂ 6 ⦂ enum ◂ 7 ⦂ fixed64 ◂ 8 ⦂ fixed64
-    ◂ 9 ⦂ repeated (message Tables.key_value) ◂ 10 ⦂ uint32 ◂ 11 ⦂ repeated (message Tables.event)
-    ◂ 12 ⦂ uint32 ◂ 13 ⦂ repeated (message Tables.link) ◂ 14 ⦂ uint32 ◂ 15 ⦂ message Tables.status
-    ◂ 16 ⦂ fixed32 ◂ end)
-    ((span_gathered c.args.self)) y
-    (finished-others (value max_depth) 2 (bytes)
-    (3 ⦂ text ◂ 4 ⦂ bytes ◂ 5 ⦂ text ◂ 6 ⦂ enum ◂ 7 ⦂ fixed64 ◂ 8 ⦂ fixed64
-    ◂ 9 ⦂ repeated (message Tables.key_value) ◂ 10 ⦂ uint32 ◂ 11 ⦂ repeated (message Tables.event)
-    ◂ 12 ⦂ uint32 ◂ 13 ⦂ repeated (message Tables.link) ◂ 14 ⦂ uint32 ◂ 15 ⦂ message Tables.status
-    ◂ 16 ⦂ fixed32 ◂ end)
-    ((span_gathered c.args.self).1) y
-    (finished-others (value max_depth) 3 (text)
-    (4 ⦂ bytes ◂ 5 ⦂ text ◂ 6 ⦂ enum ◂ 7 ⦂ fixed64 ◂ 8 ⦂ fixed64
-    ◂ 9 ⦂ repeated (message Tables.key_value) ◂ 10 ⦂ uint32 ◂ 11 ⦂ repeated (message Tables.event)
-    ◂ 12 ⦂ uint32 ◂ 13 ⦂ repeated (message Tables.link) ◂ 14 ⦂ uint32 ◂ 15 ⦂ message Tables.status
-    ◂ 16 ⦂ fixed32 ◂ end)
-    ((span_gathered c.args.self).1.1) y
-    (finished-others (value max_depth) 4 (bytes)
-    (5 ⦂ text ◂ 6 ⦂ enum ◂ 7 ⦂ fixed64 ◂ 8 ⦂ fixed64 ◂ 9 ⦂ repeated (message Tables.key_value)
-    ◂ 10 ⦂ uint32 ◂ 11 ⦂ repeated (message Tables.event) ◂ 12 ⦂ uint32
-    ◂ 13 ⦂ repeated (message Tables.link) ◂ 14 ⦂ uint32 ◂ 15 ⦂ message Tables.status ◂ 16 ⦂ fixed32
-    ◂ end)
-    ((span_gathered c.args.self).1.1.1) y
-    (finished-others (value max_depth) 5 (text)
-    (6 ⦂ enum ◂ 7 ⦂ fixed64 ◂ 8 ⦂ fixed64 ◂ 9 ⦂ repeated (message Tables.key_value) ◂ 10 ⦂ uint32
-    ◂ 11 ⦂ repeated (message Tables.event) ◂ 12 ⦂ uint32 ◂ 13 ⦂ repeated (message Tables.link)
-    ◂ 14 ⦂ uint32 ◂ 15 ⦂ message Tables.status ◂ 16 ⦂ fixed32 ◂ end)
-    ((span_gathered c.args.self).1.1.1.1) y
-    (finished-others (value max_depth) 6 (enum)
-    (7 ⦂ fixed64 ◂ 8 ⦂ fixed64 ◂ 9 ⦂ repeated (message Tables.key_value) ◂ 10 ⦂ uint32
-    ◂ 11 ⦂ repeated (message Tables.event) ◂ 12 ⦂ uint32 ◂ 13 ⦂ repeated (message Tables.link)
-    ◂ 14 ⦂ uint32 ◂ 15 ⦂ message Tables.status ◂ 16 ⦂ fixed32 ◂ end)
-    ((span_gathered c.args.self).1.1.1.1.1) y
-    (finished-others (value max_depth) 7 (fixed64)
-    (8 ⦂ fixed64 ◂ 9 ⦂ repeated (message Tables.key_value) ◂ 10 ⦂ uint32
-    ◂ 11 ⦂ repeated (message Tables.event) ◂ 12 ⦂ uint32 ◂ 13 ⦂ repeated (message Tables.link)
-    ◂ 14 ⦂ uint32 ◂ 15 ⦂ message Tables.status ◂ 16 ⦂ fixed32 ◂ end)
-    ((span_gathered c.args.self).1.1.1.1.1.1) y
-    (finished-others (value max_depth) 8 (fixed64)
-    (9 ⦂ repeated (message Tables.key_value) ◂ 10 ⦂ uint32 ◂ 11 ⦂ repeated (message Tables.event)
-    ◂ 12 ⦂ uint32 ◂ 13 ⦂ repeated (message Tables.link) ◂ 14 ⦂ uint32 ◂ 15 ⦂ message Tables.status
-    ◂ 16 ⦂ fixed32 ◂ end)
-    ((span_gathered c.args.self).1.1.1.1.1.1.1) y
-    (finished-others (value max_depth) 9 (repeated (message Tables.key_value))
-    (10 ⦂ uint32 ◂ 11 ⦂ repeated (message Tables.event) ◂ 12 ⦂ uint32
-    ◂ 13 ⦂ repeated (message Tables.link) ◂ 14 ⦂ uint32 ◂ 15 ⦂ message Tables.status ◂ 16 ⦂ fixed32
-    ◂ end)
-    ((span_gathered c.args.self).1.1.1.1.1.1.1.1) y
-    (finished-others (value max_depth) 10 (uint32)
-    (11 ⦂ repeated (message Tables.event) ◂ 12 ⦂ uint32 ◂ 13 ⦂ repeated (message Tables.link)
-    ◂ 14 ⦂ uint32 ◂ 15 ⦂ message Tables.status ◂ 16 ⦂ fixed32 ◂ end)
-    ((span_gathered c.args.self).1.1.1.1.1.1.1.1.1) y
-    (finished-others (value max_depth) 11 (repeated (message Tables.event))
-    (12 ⦂ uint32 ◂ 13 ⦂ repeated (message Tables.link) ◂ 14 ⦂ uint32 ◂ 15 ⦂ message Tables.status
-    ◂ 16 ⦂ fixed32 ◂ end)
-    ((span_gathered c.args.self).1.1.1.1.1.1.1.1.1.1) y
-    (finished-others (value max_depth) 12 (uint32)
-    (13 ⦂ repeated (message Tables.link) ◂ 14 ⦂ uint32 ◂ 15 ⦂ message Tables.status ◂ 16 ⦂ fixed32
-    ◂ end)
-    ((span_gathered c.args.self).1.1.1.1.1.1.1.1.1.1.1) y
-    (finished-others (value max_depth) 13 (repeated (message Tables.link))
-    (14 ⦂ uint32 ◂ 15 ⦂ message Tables.status ◂ 16 ⦂ fixed32 ◂ end)
-    ((span_gathered c.args.self).1.1.1.1.1.1.1.1.1.1.1.1) y
-    (finished-others (value max_depth) 14 (uint32) (15 ⦂ message Tables.status ◂ 16 ⦂ fixed32 ◂ end)
-    ((span_gathered c.args.self).1.1.1.1.1.1.1.1.1.1.1.1.1) y
-    (finished-first (value max_depth) 15 (message Tables.status) (16 ⦂ fixed32 ◂ end)
-    ((span_gathered c.args.self).1.1.1.1.1.1.1.1.1.1.1.1.1.1) y h))))))))))))))))
-    c.in_err-finish.field-0.0 c.in_err-finish.ensures.err)
+    finish-fails 14 Tables.span (span_gathered c.args.self) c.in_err-finish.ensures.err
+    (grind arith)

@@ -1,0 +1,10 @@
+use Rattle.std.proofs.Common.{◌≡◌, ◌++◌, flat_map, take}
+use Rattle.trace_context.specs.Pairs.{fields_view}
+use Rattle.http_client.specs.Requests.{field_line}
+use Rattle.http_client.proofs.request.push_carried.Given as goal
+
+-- the lines of the fields below the index are added
+abbrev pub invariant-loop-name : goal.invariant-loop-name
+invariant-loop-name l =
+    l.text.items
+    ≡ l.initial.text.items ++ flat_map field_line (fields_view (take l.name-index l.fields))

@@ -1,0 +1,5 @@
+use Rattle.std.proofs.Common.{inr}
+use Rattle.http_client.proofs.transport.NewConnectionsTransport.ask.Goals as goal
+
+pub returns-in-Ok : goal.returns-in-Ok
+returns-in-Ok g c = inr (rw (c.deref.ensures.value, c.in-Ok.ensures) at c.send.ensures)

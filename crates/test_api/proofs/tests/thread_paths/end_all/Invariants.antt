@@ -1,4 +1,0 @@
-use Rattle.test_api.proofs.tests.thread_paths.end_all.Given as goal
-
-abbrev pub decreases-loop-span : goal.decreases-loop-span
-decreases-loop-span g l = goal.left-loop-span g l

@@ -1,4 +1,0 @@
-mod Fields
-mod Started
-mod Sent
-mod Traced

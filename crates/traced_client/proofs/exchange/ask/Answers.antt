@@ -1,5 +1,0 @@
-use Rattle.std.proofs.Common.{inr}
-use Rattle.traced_client.proofs.exchange.ask.Goals as goal
-
-pub returns-in-Ok : goal.returns-in-Ok
-returns-in-Ok g c = inr (rw (c.deref.ensures.value, c.in-Ok.ensures) at c.send.ensures)

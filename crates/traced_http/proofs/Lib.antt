@@ -1,0 +1,7 @@
+mod Started
+mod Traced
+mod GoesOn
+mod Closed
+mod Texts
+mod Served
+mod Queries

@@ -1,0 +1,144 @@
+-- A request that was sent within its span.
+use Rattle.std.proofs.Common.{◌≡◌, refl, sym, ap, subst, ℕ, ◌+◌, List, [], ◌∷◌, map, Bool, true}
+use Rattle.std.proofs.Common.{false, if◌then◌else◌, Option, Some, None, IfSome, option_map, Result}
+use Rattle.std.proofs.Common.{inl, inr, ◌⊎◌}
+use Rattle.std.specs.List.{list_any}
+use Rattle.rand_core.specs.Stream.{Stream}
+use Rattle.trace_api.specs.Counts.{counted_requests}
+use Rattle.trace_api.specs.Ends.{EndsAs}
+use Rattle.model_span.specs.Attributes.{Attribute}
+use Rattle.model_span.specs.Sampling.{SamplerMeaning}
+use Rattle.model_span.specs.Spans.{Call, Context, SpanData, is_end, set_attribute}
+use Rattle.model_span.specs.Starts.{HeldSpan, StartedSpan, held_span}
+use Rattle.otlp_http.specs.Address.{Address}
+use Rattle.otlp_http.specs.Replies.{HttpReply}
+use Rattle.trace_api.specs.Starts.{tracer_view}
+use Rattle.trace_api.specs.declared.pass.Ended.{Ended}
+use Rattle.trace_context.specs.Carriers.{Field}
+use Rattle.http_client.specs.declared.fault.SendFault.{SendFault}
+use Rattle.traced_http.specs.Sends.{Asks, CarriesOwn, ClientWith, IsTraced, IsUntraced}
+use Rattle.traced_http.specs.Sends.{Sends, Starts}
+use Rattle.traced_http.specs.ClientSpans.{HasStarted, carried_by, closing_calls, request_calls}
+use Rattle.traced_http.specs.ClientSpans.{request_pairs}
+
+-- no attribute is an end
+none-ends : (pairs : List Attribute) → list_any is_end (map set_attribute pairs) ≡ false
+none-ends [] = refl
+none-ends (p ∷ pairs) = none-ends pairs
+
+-- a span keeps the context that it started with
+context-is : (s : StartedSpan) (calls : List Call) (held : HeldSpan) → held ≡ held_span s calls
+    → held.context ≡ s.start.context
+unfolding held_span
+context-is s calls held h = ap (λ (x : HeldSpan). x.context) h
+
+module _ {S R D P : Type 0} (meaning : S → SamplerMeaning) (stream : R → Stream)
+    (admits : P → SpanData → Ended → P → Type 0) where
+  -- the span of a request has started
+  starts-is : (old new : ClientWith S R D) (parent : Option Context) (method : List ℕ)
+      (address : Address) (begun : ℕ)
+      (held : HeldSpan)
+      → (h : HasStarted (tracer_view meaning old.tracer) (stream old.rng)
+      (stream new.rng) parent method address begun held)
+      → Starts meaning stream admits old parent method h.s new
+  starts-is old new parent method address begun held h =
+      record { begun = begun; started = h.started; spent = h.spent }
+
+  -- it carries that span's context
+  carries-own : (old new : ClientWith S R D) (parent : Option Context) (method : List ℕ)
+      (address : Address)
+      (begun : ℕ) (span : Option HeldSpan)
+      → IfSome span
+      (HasStarted (tracer_view meaning old.tracer) (stream old.rng)
+      (stream new.rng) parent method address begun)
+      → IfSome (option_map (λ (held : HeldSpan). held.context) span)
+      (CarriesOwn meaning stream admits old parent method new)
+  carries-own old new parent method address begun None h = tt
+  carries-own old new parent method address begun (Some held) h = (
+    h.s,
+    starts-is old new parent method address begun held h,
+    context-is h.s (request_calls method address) held h.held,
+  )
+
+  -- it has ended
+  traced-is : (old new : ClientWith S R D) (parent : Option Context) (method : List ℕ)
+      (address : Address)
+      (before after : P) (result : Result HttpReply SendFault) (begun at : ℕ) (held : HeldSpan)
+      → HasStarted (tracer_view meaning old.tracer) (stream old.rng)
+      (stream new.rng) parent method address begun held
+      → EndsAs admits (closing_calls result) at held before after
+      → new.untraced ≡ old.untraced
+      → IsTraced meaning stream admits old parent method address
+      (Some held.context) before result new after
+  traced-is old new parent method address before after result begun at held h e n = record {
+    s = h.s;
+    starts = starts-is old new parent method address begun held h;
+    is_carried = ap Some (context-is h.s (request_calls method address) held h.held);
+    ended = at;
+    handed =
+        e.value h.s (request_calls method address) h.held
+        (none-ends (request_pairs method address));
+    untraced = n;
+  }
+
+  -- A traced client gets its result, and hands over the request's span or counts the request as
+  -- untraced.
+  pub sends : (asks : Asks D) (old new : ClientWith S R D) (parent : Option Context)
+      (method : List ℕ) (address : Address)
+      (before after : P) (result : Result HttpReply SendFault) (begun at : ℕ)
+      (span : Option HeldSpan) (fields : List Field) (has_ended : Bool)
+      → IfSome span
+      (HasStarted (tracer_view meaning old.tracer) (stream old.rng)
+      (stream new.rng) parent method address begun)
+      → fields ≡ carried_by (option_map (λ (held : HeldSpan). held.context) span)
+      → asks fields old.dial new.dial result
+      → (has_ended ≡ true
+      → (held : HeldSpan) × (span ≡ Some held)
+      × EndsAs admits (closing_calls result) at held before after)
+      → (has_ended ≡ false → after ≡ before)
+      → new.untraced ≡ (if has_ended then old.untraced else counted_requests (old.untraced + 1))
+      → new.tracer ≡ old.tracer
+      → Sends meaning stream admits asks old parent method address before result new after
+  sends asks old new parent method address before after result begun at span fields has_ended
+      started carried
+      asked ends none counted tracer =
+      record {
+        context = option_map (λ (held : HeldSpan). held.context) span;
+        asked = subst (λ f. asks f old.dial new.dial result) carried asked;
+        traced = by has_ended ends none counted;
+        tracer = tracer;
+      }
+    where
+      with-span : (x : Option HeldSpan) (held : HeldSpan) → x ≡ Some held
+          → IfSome x
+          (HasStarted (tracer_view meaning old.tracer) (stream old.rng)
+          (stream new.rng) parent method address begun)
+          → EndsAs admits (closing_calls result) at held before after
+          → new.untraced ≡ old.untraced
+          → IsTraced meaning stream admits old parent method address
+          (option_map (λ (held : HeldSpan). held.context) x) before result new after
+      with-span None held h s e n = cc
+      with-span (Some y) held h s e n =
+          let same : y ≡ held = cc in
+          traced-is old new parent method address before after result begun at y s
+          (subst (λ z. EndsAs admits (closing_calls result) at z before after)
+          (sym same) e)
+          n
+
+      by : (b : Bool)
+          → (b ≡ true
+          → (held : HeldSpan) × (span ≡ Some held)
+          × EndsAs admits (closing_calls result) at held before after)
+          → (b ≡ false → after ≡ before)
+          → new.untraced ≡ (if b then old.untraced else counted_requests (old.untraced + 1))
+          → IsTraced meaning stream admits old parent method address
+          (option_map (λ (held : HeldSpan). held.context) span) before result new after
+          ⊎ IsUntraced meaning stream admits old parent method
+          (option_map (λ (held : HeldSpan). held.context) span) before new after
+      by true e u n = let h = e refl in inl (with-span span h.0 h.1 started h.2 n)
+      by false e u n =
+          inr (record {
+            carried = carries-own old new parent method address begun span started;
+            untouched = u refl;
+            untraced = n;
+          })

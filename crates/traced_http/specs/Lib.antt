@@ -1,0 +1,10 @@
+pub mod Methods
+pub mod Queries
+pub mod Starts
+pub mod ClientSpans
+pub mod Sends
+pub mod Attributes
+pub mod Carried
+pub mod ServerSpans
+pub mod RequestSpans
+pub mod Serves

@@ -1,0 +1,11 @@
+//! Requests of HTTP with spans (OpenTelemetry Semantic Conventions, "HTTP spans"): [`server`] answers
+//! each request within a span, [`client`] sends each within one.
+#![tactic(auto)]
+
+pub mod client;
+mod method;
+mod query;
+pub mod server;
+mod span;
+
+pub use method::{is_known, method_name, method_value, original_method};

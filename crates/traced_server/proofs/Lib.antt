@@ -1,4 +1,0 @@
-mod GoesOn
-mod Texts
-mod Started
-mod Served

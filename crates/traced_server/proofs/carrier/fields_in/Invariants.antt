@@ -1,8 +1,0 @@
-use Rattle.std.proofs.Common.{◌≡◌, ◌++◌, map}
-use Rattle.traced_server.specs.Carried.{fields_of, lent_fields}
-use Rattle.traced_server.proofs.carrier.fields_in.Given as goal
-
--- The fields so far, and those that are left, are all.
-abbrev pub invariant-loop-name : goal.invariant-loop-name
-invariant-loop-name l =
-    lent_fields l.list.items ++ map (λ p. (p.0, p.1.bytes)) l.name-iterator ≡ fields_of l.headers

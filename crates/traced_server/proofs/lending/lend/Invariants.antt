@@ -1,5 +1,0 @@
-use Rattle.traced_server.proofs.lending.lend.Given as goal
-
--- the origin is the span that is lent
-abbrev pub ghosts-lend_from : goal.ghosts-lend_from
-ghosts-lend_from g a = record { origin = a.span }
