@@ -43,7 +43,7 @@ def trusted_of(top, uses):
         some = [
             crate for crate in uses
             if any(
-                re.search(rf"\b{word}\b", re.sub(r"//.*", "", it.read_text(encoding="utf-8")))
+                re.search(rf"\b{word}\b", re.sub(r"//.*|\bghost use .*", "", it.read_text(encoding="utf-8")))
                 for it in (top / "crates" / crate / "src").rglob("*.rt")
             )
         ]

@@ -74,6 +74,10 @@ class View:
             limit = self.status_of("VmSize")[0] * 1024 + room
         resource.prlimit(self.process.pid, resource.RLIMIT_AS, (limit, hard))
 
+    def descriptors(self):
+        """How many descriptors it has (Linux)."""
+        return len(os.listdir(f"/proc/{self.process.pid}/fd"))
+
     def stats(self):
         """What it counts."""
         return json.loads(Link(self.port).ask("GET", "/api/stats")[2])
