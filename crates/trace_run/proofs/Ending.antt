@@ -196,7 +196,7 @@ module _ {S R : Type 0} (meaning : S → SamplerMeaning) (stream : R → Stream)
         (spans-on meaning stream run h table desk out at x table2 takes) same refl does
         (ap (λ d. d.config) is) (ap (λ d. d.next_ticket) is)
         (ap (λ d. d.closed) is ∙ at.closed ∙ sym (or-false (is_shut h))) (omega (arith, many))
-        (tied-kept desk desk2 out (ap (λ d. d.out) is) (ap (λ d. d.config) is) at.tied)
+        (tied-kept desk desk2 out (ap (λ d. d.out) is) (ap (λ d. d.config) is) at.tied) at.prepared
         (out-stays meaning stream run h table desk out at x (events ++ queue.late ∷ []) refl
         (events-more run.setup h x (Some queue.late) refl) (last-kept events queue.late refl refl)
         (ap length (sizes-kept events queue.late refl)))
@@ -265,6 +265,7 @@ module _ {S R : Type 0} (meaning : S → SamplerMeaning) (stream : R → Stream)
                 closed ∙ by (desk.next_ticket + 1 == 2 ^ 64 - 1) refl few
                 ∙ sym (shut-more h x ∙ rw unshut refl);
             tied = tied-kept desk desk2 out same-out config at.tied;
+            prepared = at.prepared;
             out_is =
                 out-stays meaning stream run h table desk out at x
                 (desk_events run.setup h ++ event ∷ []) stage events last

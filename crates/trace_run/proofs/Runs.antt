@@ -120,6 +120,7 @@ module _ {S R : Type 0} (meaning : S → SamplerMeaning) (stream : R → Stream)
     bound = let z = ap (λ d. d.next_ticket) is in let y = ap length none in omega (arith, z, y);
     closed = ap (λ d. d.closed) is;
     tied = ap (λ d. d.out) is;
+    prepared = tt;
     out_is = refl;
     answers = tt;
   }

@@ -24,7 +24,7 @@ use Rattle.model_run.proofs.More.{last_attempt-none, answers-more}
 use Rattle.model_desk.specs.Retries.{delivered}
 use Rattle.trace_run.specs.Table.{IsTable, TableWith, TakesStep, answer_to_start, answer_to_call}
 use Rattle.trace_run.specs.Table.{span_numbered}
-use Rattle.trace_run.specs.Out.{Out, shown, IsTied}
+use Rattle.trace_run.specs.Out.{Out, shown, IsTied, IsPrepared}
 use Rattle.trace_run.specs.State.{Stands}
 
 -- A disjunction with `false` is its first part.
@@ -91,9 +91,10 @@ module _ {S R : Type 0} (meaning : S → SamplerMeaning) (stream : R → Stream)
       → IsDesk 0 (desk_events run.setup h ++ option_to_list o) desk2 → desk2.config ≡ desk.config
       → desk2.next_ticket ≡ desk.next_ticket → desk2.closed ≡ (is_shut h || is_shutdown x.step)
       → length table2.spans ≤ length table.spans + 1 → IsTied desk2 out2
-      → shown out2 ≡ pending_after run.setup (h ++ x ∷ []) → IsAnswer run h x
-      → Stands meaning stream run (h ++ x ∷ []) table2 desk2 out2
-  stands-on x table2 desk2 out2 o spans same event history config tickets closed few tied is right =
+      → IsPrepared run.retry out2 → shown out2 ≡ pending_after run.setup (h ++ x ∷ [])
+      → IsAnswer run h x → Stands meaning stream run (h ++ x ∷ []) table2 desk2 out2
+  stands-on x table2 desk2 out2 o spans same event history config tickets closed few tied prepared
+      is right =
       record {
         spans = spans;
         history = subst (λ es. IsDesk 0 es desk2) (sym (events-more run.setup h x o event)) history;
@@ -102,6 +103,7 @@ module _ {S R : Type 0} (meaning : S → SamplerMeaning) (stream : R → Stream)
         bound = omega (arith, tickets, few, at.bound, length_push h x);
         closed = closed ∙ sym (shut-more h x);
         tied = tied;
+        prepared = prepared;
         out_is = is;
         answers = answers-more run h x at.answers right;
       }
@@ -130,6 +132,7 @@ module _ {S R : Type 0} (meaning : S → SamplerMeaning) (stream : R → Stream)
       (subst (λ es. IsDesk 0 es desk) (sym (append-nil (desk_events run.setup h))) at.history)
       refl refl
       (at.closed ∙ sym (ap (λ b. is_shut h || b) unshut ∙ or-false (is_shut h))) few at.tied
+      at.prepared
       (out-stays x (desk_events run.setup h) q.stage events refl refl) right
 
   -- The spans after a step that the table has taken are what the steps mean.

@@ -15,17 +15,22 @@ use Rattle.model_run.specs.Runs.{Answer, Answered, desk_events}
 use Rattle.model_desk.specs.Waits.{RetryConfig}
 use Rattle.model_run.specs.Answers.{RunConfig, last_attempt, take_answer}
 use Rattle.model_run.specs.Headline.{attempt_by}
+use Rattle.model_processor.specs.Batches.{canonical_body, IsBodyOf}
+use Rattle.otlp_proto.specs.Bodies.{body_bytes}
+use Rattle.retry_core.specs.Retries.{outcome_view}
 use Rattle.batch_desk.specs.Batch.{BatchView}
+use Rattle.batch_sending.specs.Sendings.{Sending}
+use Rattle.batch_sending.specs.Answers.{Attempts}
+use Rattle.batch_sending.specs.declared.answers.Attempted.{Attempted}
+use Rattle.batch_sending.specs.declared.answers.Attempted.TheVariants as attempted
 use Rattle.trace_history.specs.Answers.{answer_view}
 use Rattle.trace_history.specs.declared.answer.Answer.{Answer as CodeAnswer}
 use Rattle.trace_history.specs.declared.answer.Answer.TheVariants as answers
-use Rattle.span_exporter.specs.Handed.{Handed}
+use Rattle.span_exporter.specs.Handed.{Handed, handing}
 use Rattle.trace_run.specs.Table.{TableWith}
 use Rattle.trace_run.specs.Ends.{EndsAs, EndsBy}
 use Rattle.trace_run.specs.Queue.{Admits}
-use Rattle.trace_run.specs.Out.{ExportStage, to_encode, to_send, to_judge, to_retry, Out, Encodes}
-use Rattle.trace_run.specs.Out.{EncodesAt, EncodesBatch, Sends, SendsAt, SendsBody, IsBody}
-use Rattle.trace_run.specs.Out.{SendsNone, IsBodyOf, Replies, JudgesAt}
+use Rattle.trace_run.specs.Out.{Out, IsSendingOf, Encodes, attempt_said, Sends, Replies}
 use Rattle.trace_run.specs.State.{Stands, HasItsBody, TellsAll, Tells}
 use Rattle.trace_run.proofs.Batches.{shows}
 use Rattle.trace_run.proofs.Runs.{tells-none}
@@ -77,60 +82,39 @@ pub take-tells-at : {S R : Type 0} {meaning : S → SamplerMeaning} {stream : R 
     → attempt_by (answer_view answer) ≡ None
 take-tells-at {desk = desk} at now answer e = take-tells desk now answer e
 
-encode-batch-tells : (max_body : ℕ) (batch : BatchView) (answer : CodeAnswer) (old new : Desk)
-    (later : Option Out)
-    → EncodesBatch max_body batch answer old new later → attempt_by (answer_view answer) ≡ None
-encode-batch-tells max_body batch (answers.Encoded number size) old new later t = refl
-encode-batch-tells max_body batch (answers.Dropped number reason) old new later t = refl
-encode-batch-tells max_body batch answers.OutOfMemory old new later t = absurd t
-encode-batch-tells max_body batch (answers.Taken number count) old new later t = absurd t
-encode-batch-tells max_body batch answers.NotTaken old new later t = absurd t
-encode-batch-tells max_body batch (answers.Started trace span) old new later t = absurd t
-encode-batch-tells max_body batch answers.NoRandomness old new later t = absurd t
-encode-batch-tells max_body batch answers.NoSpan old new later t = absurd t
-encode-batch-tells max_body batch answers.Done old new later t = absurd t
-encode-batch-tells max_body batch (answers.Ended x) old new later t = absurd t
-encode-batch-tells max_body batch answers.Flush old new later t = absurd t
-encode-batch-tells max_body batch answers.Shutdown old new later t = absurd t
-encode-batch-tells max_body batch (answers.Sent number k outcome) old new later t = absurd t
-encode-batch-tells max_body batch (answers.Replied number next) old new later t = absurd t
-encode-batch-tells max_body batch answers.Early old new later t = absurd t
-encode-batch-tells max_body batch answers.Nothing old new later t = absurd t
-
 -- The answer to an encoding speaks of no attempt.
-pub encode-tells : (max_body : ℕ) (out later : Option Out) (answer : CodeAnswer) (old new : Desk)
-    → Encodes max_body out answer old new later → attempt_by (answer_view answer) ≡ None
-encode-tells max_body None later answer old new t =
-    told-by answers.Nothing answer refl t.idle.answered
-encode-tells max_body (Some o) later answer old new t = by o.stage t
-  where
-    by : (s : ExportStage) → EncodesAt max_body s o answer old new later
-        → attempt_by (answer_view answer) ≡ None
-    by to_encode u = encode-batch-tells max_body o.batch answer old new later u
-    by (to_send body) u = told-by answers.Nothing answer refl u.idle.answered
-    by (to_judge body attempt outcome) u = told-by answers.Nothing answer refl u.idle.answered
-    by (to_retry body attempts moment) u = told-by answers.Nothing answer refl u.idle.answered
+pub encode-tells : (retry : RetryConfig) (max_body : ℕ) (out later : Option Out)
+    (answer : CodeAnswer) (old new : Desk)
+    → Encodes retry max_body out answer old new later → attempt_by (answer_view answer) ≡ None
+encode-tells retry max_body out later answer old new (inl t) = told-by _ answer refl t.answered
+encode-tells retry max_body out later answer old new (inr (inl t)) =
+    told-by _ answer refl t.answered
+encode-tells retry max_body out later answer old new (inr (inr t)) =
+    told-by _ answer refl t.answered
 
--- A body of the batch that is out, which is the last one, is the body of its number.
+-- An attempt of the batch that is out, which is the last one, has the body of its number.
 body-of-last : {S R : Type 0} {meaning : S → SamplerMeaning} {stream : R → Stream} (run : RunConfig)
-    (h : List Answered) {table : TableWith S R} {desk : Desk} (o : Out)
-    → Stands meaning stream run h table desk (Some o)
-    → (body : List ℕ) (attempt : ℕ) (outcome : Outcome) → IsBody body o.batch
+    (h : List Answered) {table : TableWith S R} {desk : Desk} (batch : BatchView) (s : Sending)
+    → Stands meaning stream run h table desk (Some (record { batch = batch; sending = Some s }))
+    → (attempt : ℕ) (outcome : Outcome)
     → HasItsBody run.setup h
-    (record { number = o.batch.number; attempt = attempt; body = body; outcome = outcome })
-body-of-last run h o at body attempt outcome b =
+    (record { number = s.number; attempt = attempt; body = s.body; outcome = outcome })
+unfolding body_bytes canonical_body
+body-of-last run h batch s at attempt outcome =
     let events : List DeskEvent = desk_events run.setup h in
     let sh = shows _ _ (last_spans events) (last_batch events) (last_attempt h) at.out_is in
-    let is : IsBodyOf (batch_spans events o.batch.number) body =
-    subst (λ spans. IsBodyOf spans body)
-    (sh.spans ∙ ap (batch_spans events) (sym sh.number)) b.is in
+    let p : IsSendingOf run.retry batch s = at.prepared.1 in
+    let number : s.number ≡ last_batch events = p.number ∙ ap (λ b. b.number) sh in
+    let is : IsBodyOf (batch_spans events s.number) s.body =
+    subst (λ spans. IsBodyOf spans s.body)
+    (ap (λ b. b.spans) sh ∙ ap (batch_spans events) (sym number)) p.body in
     record {
       means = record {
-        numbered = b.numbered;
-        taken = let n = sh.number in omega (arith, n);
+        numbered = let n = at.prepared.0 in omega (arith, n, p.number);
+        taken = omega (arith, number);
         body = is.means;
       };
-      bytes = is.bytes;
+      bytes = is.canonical;
     }
 
 -- The exporter gains the attempt that the answer speaks of, with the body of its batch.
@@ -139,53 +123,40 @@ pub send-tells : {S R : Type 0} {meaning : S → SamplerMeaning} {stream : R →
     (answer : CodeAnswer) (old new : Desk) (before after : Option (List Handed))
     → Stands meaning stream run h table old out → Sends now out answer old new later before after
     → Tells (answer_view answer) (HasItsBody run.setup h) before after
-send-tells run h now None later answer old new before after at t =
+send-tells run h now out later answer old new before after at (inr t) =
     tells-nothing (answer_view answer) (HasItsBody run.setup h) before after
-    (told-by answers.Nothing answer refl t.idle.answered) t.told
-send-tells run h now (Some o) later answer old new before after at t = by o.stage t
+    (told-by answers.Nothing answer refl t.idle.answered) t.nothing_is_sent
+send-tells {meaning = meaning} {stream} run h {table} now out later answer old new before after at
+    (inl t) =
+    rw t.answered (by t.came t.attempts)
   where
-    Told : Type 0
-    Told = Tells (answer_view answer) (HasItsBody run.setup h) before after
+    stands : Stands meaning stream run h table old
+        (Some (record { batch = t.batch; sending = Some t.sending }))
+    stands = subst (Stands meaning stream run h table old) t.was at
 
-    none : SendsNone (Some o) answer old new later before after → Told
-    none u =
-        tells-nothing (answer_view answer) (HasItsBody run.setup h) before after
-        (told-by answers.Nothing answer refl u.idle.answered) u.told
-
-    sent : (body : List ℕ) (attempt : ℕ) → SendsBody body attempt o.batch answer later before after
-        → IsBody body o.batch → Told
-    sent body attempt u b =
-        subst (λ a. Tells (answer_view a) (HasItsBody run.setup h) before after) (sym u.answered)
-        (record {
-          more = _;
-          gains = u.told;
-          are = refl;
-          bodies = (body-of-last run h o at body attempt _ b, tt);
-        })
-
-    by : (s : ExportStage) → SendsAt now s o answer old new later before after → Told
-    by to_encode u = none u
-    by (to_judge body attempt outcome) u = none u
-    by (to_send body) u = sent body 1 u.sends u.of_batch
-    by (to_retry body attempts moment) (inl u) = sent body (attempts + 1) u.sends u.of_batch
-    by (to_retry body attempts moment) (inr u) =
-        tells-nothing (answer_view answer) (HasItsBody run.setup h) before after
-        (told-by answers.Early answer refl u.answered) u.told
+    by : (came : Attempted) → Attempts now t.sending came t.next before after
+        → Tells (answer_view (attempt_said t.batch.number came)) (HasItsBody run.setup h) before
+        after
+    by (attempted.Sent attempt outcome) a = record {
+      more = handing t.sending.number attempt t.sending.body (outcome_view outcome);
+      gains = a.gains;
+      are =
+          let p : IsSendingOf run.retry t.batch t.sending = stands.prepared.1 in
+          ap (λ n. record { number = n; attempt = attempt; outcome = outcome_view outcome } ∷ [])
+          p.number;
+      bodies =
+          (body-of-last run h t.batch t.sending stands attempt (outcome_view outcome), tt);
+    }
+    by attempted.Early a =
+        tells-nothing (answer_view answers.Early) (HasItsBody run.setup h) before after refl
+        a.nothing_is_sent
+    by attempted.Unjudged a =
+        tells-nothing (answer_view answers.Nothing) (HasItsBody run.setup h) before after refl
+        a.nothing_is_sent
 
 -- The answer to a reply speaks of no attempt.
-pub reply-tells : (retry : RetryConfig) (now word : ℕ) (out later : Option Out)
-    (answer : CodeAnswer) (old new : Desk)
-    → Replies retry now word out answer old new later → attempt_by (answer_view answer) ≡ None
-reply-tells retry now word None later answer old new t =
-    told-by answers.Nothing answer refl t.idle.answered
-reply-tells retry now word (Some o) later answer old new t = by o.stage t
-  where
-    by : (s : ExportStage) → JudgesAt retry now word s o answer old new later
-        → attempt_by (answer_view answer) ≡ None
-    by to_encode u = told-by answers.Nothing answer refl u.idle.answered
-    by (to_send body) u = told-by answers.Nothing answer refl u.idle.answered
-    by (to_retry body attempts moment) u = told-by answers.Nothing answer refl u.idle.answered
-    by (to_judge body attempt outcome) (inl u) =
-        told-by (answers.Replied o.batch.number u.next) answer refl u.answered
-    by (to_judge body attempt outcome) (inr u) =
-        told-by (answers.Replied o.batch.number u.next) answer refl u.answered
+pub reply-tells : (now word : ℕ) (out later : Option Out) (answer : CodeAnswer) (old new : Desk)
+    → Replies now word out answer old new later → attempt_by (answer_view answer) ≡ None
+reply-tells now word out later answer old new (inl t) = told-by _ answer refl t.answered
+reply-tells now word out later answer old new (inr (inl t)) = told-by _ answer refl t.answered
+reply-tells now word out later answer old new (inr (inr t)) = told-by _ answer refl t.answered

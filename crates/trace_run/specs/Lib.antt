@@ -1,6 +1,5 @@
 pub mod Queue
 pub mod Out
-pub mod Views
 pub mod Report
 pub mod Run
 pub mod State

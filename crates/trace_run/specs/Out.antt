@@ -1,69 +1,64 @@
 -- The batch that is out in a run, and what is done to it.
-use Rattle.std.specs.Prelude.{◌≡◌, ℕ, ◌+◌, ◌<◌, ◌≤◌, ◌⊎◌, Bool, true, false, List, length, Option}
-use Rattle.std.specs.Prelude.{Some, None}
-use Rattle.model_message.specs.Reading.{Reads}
-use Rattle.model_message.specs.Messages.{body_meaning}
-use Rattle.model_span.specs.Spans.{SpanData}
-use Rattle.model_export.specs.Export.{LacksBody, groups, body_length, grouped_triples}
-use Rattle.model_desk.specs.Retries as retries
-use Rattle.model_desk.specs.Retries.{Fate, fate_of}
-use Rattle.model_desk.specs.Queue as desk
+use Rattle.std.specs.Prelude.{◌≡◌, ℕ, ◌<◌, ◌≤◌, ◌⊎◌, Bool, true, false, List, length, Option, Some}
+use Rattle.std.specs.Prelude.{None}
+use Rattle.model_export.specs.Export.{LacksBody, groups, body_length}
+use Rattle.model_desk.specs.Queue as queue
 use Rattle.model_desk.specs.Desks.{Desk, Does, DropsSpans, SettlesSpans, TakesSpans}
-use Rattle.model_desk.specs.Waits.{RetryConfig, IsRetryConfig, next_after}
-use Rattle.otlp_proto.specs.Bodies.{body_bytes}
+use Rattle.model_desk.specs.Waits.{RetryConfig}
+use Rattle.model_processor.specs.WorkerClauses.{IsBodyOf}
 use Rattle.otlp_span.specs.Dropped.{reason_view}
 use Rattle.otlp_span.specs.declared.reason.Reason.{Reason}
-use Rattle.retry_core.specs.Retries.{outcome_view, next_view}
+use Rattle.retry_core.specs.Retries.{fate_view}
+use Rattle.retry_core.specs.declared.fate.Fate.{Fate}
 use Rattle.retry_core.specs.declared.next.Next.{Next}
-use Rattle.retry_core.specs.declared.outcome.Outcome.{Outcome}
+use Rattle.retry_core.specs.declared.next.Next.TheVariants.{Again}
 use Rattle.batch_desk.specs.Batch.{BatchView}
 use Rattle.batch_desk.specs.Desk.{IsOut}
-use Rattle.span_exporter.specs.Handed.{Handed, handing, Gains}
+use Rattle.span_exporter.specs.Handed.{Handed}
+use Rattle.batch_sending.specs.Sendings.{Stage, to_send, to_judge, to_retry, Sending, HasRoom}
+use Rattle.batch_sending.specs.Sendings.{attempts_at, is_sent_at}
+use Rattle.batch_sending.specs.Answers.{Attempts, IsAgain, IsOver}
+use Rattle.batch_sending.specs.declared.answers.Attempted.{Attempted}
+use Rattle.batch_sending.specs.declared.answers.Attempted.TheVariants as attempted
 use Rattle.trace_history.specs.declared.answer.Answer.{Answer}
 use Rattle.trace_history.specs.declared.answer.Answer.TheVariants as answers
 use Rattle.model_run.specs.Answers as model
 use Rattle.model_run.specs.Headline as headline
 
--- how far the batch is: it is to be encoded, or this body is to be sent, or it was sent in this
--- attempt, with this outcome, or it had this number of attempts and is to be sent again, from this
--- moment on
-pub data ExportStage : Type 0 where
-  to_encode : ExportStage
-  to_send : List ℕ → ExportStage
-  to_judge : List ℕ → ℕ → retries.Outcome → ExportStage
-  to_retry : List ℕ → ℕ → ℕ → ExportStage
-
--- a batch that is out
+-- a batch that is out: it is to be encoded, or it is on its way to the exporter
 pub record Out : Type 0 where
   pub batch : BatchView
-  pub stage : ExportStage
+  pub sending : Option Sending
 
-abbrev pub progress_of : ExportStage → model.Progress
-progress_of to_encode = model.to_encode
-progress_of (to_send body) = model.to_send
-progress_of (to_judge body attempt outcome) = model.to_judge outcome
-progress_of (to_retry body attempts moment) = model.to_retry moment
+abbrev pub progress_at : Stage → model.Progress
+progress_at to_send = model.to_send
+progress_at (to_judge attempt outcome) = model.to_judge outcome
+progress_at (to_retry attempts moment) = model.to_retry moment
+
+abbrev pub progress_of : Option Sending → model.Progress
+progress_of None = model.to_encode
+progress_of (Some sending) = progress_at sending.stage
+
+abbrev pub progress_in : Option Out → model.Progress
+progress_in None = model.not_out
+progress_in (Some o) = progress_of o.sending
 
 -- how many attempts it had
-abbrev pub attempts_at : ExportStage → ℕ
-attempts_at to_encode = 0
-attempts_at (to_send body) = 0
-attempts_at (to_judge body attempt outcome) = attempt
-attempts_at (to_retry body attempts moment) = attempts
+abbrev pub attempts_of : Option Sending → ℕ
+attempts_of None = 0
+attempts_of (Some sending) = attempts_at sending.stage
 
 -- it is with the exporter
-abbrev pub is_sent : ExportStage → Bool
-is_sent to_encode = false
-is_sent (to_send body) = false
-is_sent (to_judge body attempt outcome) = true
-is_sent (to_retry body attempts moment) = true
+abbrev pub is_sent : Option Sending → Bool
+is_sent None = false
+is_sent (Some sending) = is_sent_at sending.stage
 
 abbrev pub shown_as : Out → headline.PendingBatch
 shown_as o = record {
   number = o.batch.number;
   spans = o.batch.spans;
-  progress = progress_of o.stage;
-  attempts = attempts_at o.stage;
+  progress = progress_of o.sending;
+  attempts = attempts_of o.sending;
 }
 
 abbrev pub shown : Option Out → Option headline.PendingBatch
@@ -75,44 +70,34 @@ shown (Some o) = Some (shown_as o)
 -- the desk knows of the batch that is out, and of no other
 abbrev pub IsTied : Desk → Option Out → Type 0
 IsTied d None = d.out ≡ None
-IsTied d (Some o) = IsOut (is_sent o.stage) d o.batch
+IsTied d (Some o) = IsOut (is_sent o.sending) d o.batch
 
--- The body, read as a request, is these spans under their resources and scopes, written as the
--- canon has it. (OTLP Specification, OTLP/HTTP; the canon: profile)
-pub record IsBodyOf (spans : List SpanData) (body : List ℕ) : Type 0 where
-  pub means : Reads (body_meaning body) (grouped_triples spans)
-  pub bytes : body ≡ body_bytes (groups spans)
+-- What is on its way is the body of this batch, under its number. It is sent as often as these
+-- settings say, and where it was sent, it had an attempt.
+pub record IsSendingOf (settings : RetryConfig) (batch : BatchView) (sending : Sending)
+    : Type 0 where
+  pub number : sending.number ≡ batch.number
+  pub retry : sending.retry ≡ settings
+  pub body : IsBodyOf batch.spans sending.body
+  pub some : is_sent_at sending.stage ≡ true → 1 ≤ attempts_at sending.stage
 
--- a body that is to be sent is that of the batch, and after these attempts there is room for all
--- that are configured
-pub record HasRoom (retry : RetryConfig) (room : ℕ → ℕ) (spans : List SpanData) (body : List ℕ)
-    (attempts : ℕ) : Type 0 where
-  pub config : IsRetryConfig retry
-  pub enough : retry.attempts ≤ room (length body) + attempts
-  pub is : IsBodyOf spans body
-
-abbrev pub IsReadyAt : RetryConfig → (ℕ → ℕ) → List SpanData → ExportStage → Type 0
-IsReadyAt retry room spans to_encode = Unit {0}
-IsReadyAt retry room spans (to_send body) = HasRoom retry room spans body 0
-IsReadyAt retry room spans (to_judge body attempt outcome) = HasRoom retry room spans body attempt
-IsReadyAt retry room spans (to_retry body attempts moment) = HasRoom retry room spans body attempts
-
--- An attempt that was made is one of those configured, and where there is another, it was not the
--- last.
-abbrev pub IsCountedAt : RetryConfig → ExportStage → Type 0
-IsCountedAt retry (to_judge body attempt outcome) = (1 ≤ attempt) × (attempt ≤ retry.attempts)
-IsCountedAt retry (to_retry body attempts moment) = (1 ≤ attempts) × (attempts < retry.attempts)
-IsCountedAt retry _ = Unit {0}
-
-abbrev pub IsCounted : RetryConfig → Option Out → Type 0
-IsCounted retry None = Unit {0}
-IsCounted retry (Some o) = IsCountedAt retry o.stage
+abbrev pub IsPreparedAt : RetryConfig → BatchView → Option Sending → Type 0
+IsPreparedAt retry batch None = Unit {0}
+IsPreparedAt retry batch (Some sending) = IsSendingOf retry batch sending
 
 -- batches are numbered from 1 on
-abbrev pub IsReady : RetryConfig → (ℕ → ℕ) → Option Out → Type 0
-IsReady retry room None = Unit {0}
-IsReady retry room (Some o) =
-    0 < o.batch.number × IsReadyAt retry room o.batch.spans o.stage × IsCountedAt retry o.stage
+abbrev pub IsPrepared : RetryConfig → Option Out → Type 0
+IsPrepared retry None = Unit {0}
+IsPrepared retry (Some o) = 0 < o.batch.number × IsPreparedAt retry o.batch o.sending
+
+-- the exporter has room for what is left of its attempts
+abbrev pub IsReadyAt : (ℕ → ℕ) → Option Sending → Type 0
+IsReadyAt room None = Unit {0}
+IsReadyAt room (Some sending) = HasRoom room sending
+
+abbrev pub IsReady : (ℕ → ℕ) → Option Out → Type 0
+IsReady room None = Unit {0}
+IsReady room (Some o) = IsReadyAt room o.sending
 
 -- ---- turns
 
@@ -122,182 +107,169 @@ pub record Keeps (old new : Desk) : Type 0 where
   pub next_ticket : new.next_ticket ≡ old.next_ticket
   pub closed : new.closed ≡ old.closed
 
--- the step is for no batch that is out
-pub record IsIdle (out : Option Out) (answer : Answer) (later : Option Out) : Type 0 where
+-- the batch that is out, if one is, isn't so far that this step is for it, and nothing is done
+pub record IsIdle (asks : model.Progress → Bool) (out : Option Out) (answer : Answer)
+    (old new : Desk) (later : Option Out) : Type 0 where
+  pub other : asks (progress_in out) ≡ false
   pub answered : answer ≡ answers.Nothing
-  pub same : later ≡ out
+  pub left : later ≡ out
+  pub desk : new ≡ old
+
+abbrev pub is_to_encode : model.Progress → Bool
+is_to_encode model.to_encode = true
+is_to_encode _ = false
+
+abbrev pub is_to_send : model.Progress → Bool
+is_to_send model.not_out = false
+is_to_send model.to_encode = false
+is_to_send _ = true
+
+abbrev pub is_to_judge : model.Progress → Bool
+is_to_judge (model.to_judge outcome) = true
+is_to_judge _ = false
+
+-- ---- takes
 
 -- A batch is taken at this moment.
-pub record TakesBatch (now number count : ℕ) (old new : Desk) (later : Option Out) : Type 0 where
+pub record TakesBatch (now : ℕ) (answer : Answer) (old new : Desk) (later : Option Out)
+    : Type 0 where
   pub batch : BatchView
-  pub out : later ≡ Some (record { batch = batch; stage = to_encode })
+  pub answered : answer ≡ answers.Taken batch.number (length batch.spans)
+  pub left : later ≡ Some (record { batch = batch; sending = None })
   pub takes : TakesSpans now batch.spans old new
   pub in_hand : IsOut false new batch
-  pub numbered : batch.number ≡ number
-  pub counted : length batch.spans ≡ count
+  pub numbered : batch.number ≡ new.batches
+  pub positive : 0 < batch.number
   pub keeps : Keeps old new
 
--- none is
-pub record TakesNone (old : Desk) (out : Option Out) (new : Desk) (later : Option Out)
-    : Type 0 where
-  pub desk_same : new ≡ old
-  pub same : later ≡ out
-
--- by the answer
-abbrev pub Takes : ℕ → Answer → Desk → Option Out → Desk → Option Out → Type 0
-Takes now (answers.Taken number count) old out new later = TakesBatch now number count old new later
-Takes now answers.NotTaken old out new later = TakesNone old out new later
-Takes now _ old out new later = ⊥
-
--- so it is, and nothing is done
-pub record DoesNothing (out : Option Out) (answer : Answer) (old new : Desk) (later : Option Out)
-    : Type 0 where
-  pub idle : IsIdle out answer later
-  pub desk_same : new ≡ old
-
--- The batch has a body of this size, which is to be sent.
-pub record HasBody (max_body : ℕ) (batch : BatchView) (number size : ℕ) (old new : Desk)
+-- None is.
+pub record TakesNone (answer : Answer) (old : Desk) (out : Option Out) (new : Desk)
     (later : Option Out) : Type 0 where
+  pub answered : answer ≡ answers.NotTaken
+  pub left : later ≡ out
+  pub desk : new ≡ old
+
+abbrev pub Takes : ℕ → Answer → Desk → Option Out → Desk → Option Out → Type 0
+Takes now answer old out new later =
+    TakesBatch now answer old new later ⊎ TakesNone answer old out new later
+
+-- ---- encodings
+
+-- The batch has this body, which is to be sent.
+pub record HasBody (settings : RetryConfig) (max_body : ℕ) (out : Option Out) (answer : Answer)
+    (old new : Desk) (later : Option Out) : Type 0 where
+  pub batch : BatchView
   pub body : List ℕ
-  pub out : later ≡ Some (record { batch = batch; stage = to_send body })
-  pub numbered : number ≡ batch.number
-  pub measured : size ≡ length body
+  pub was : out ≡ Some (record { batch = batch; sending = None })
+  pub means : IsBodyOf batch.spans body
   pub fits : length body ≤ max_body
-  pub length : length body ≡ body_length (groups batch.spans)
-  pub desk_same : new ≡ old
+  pub measured : length body ≡ body_length (groups batch.spans)
+  pub answered : answer ≡ answers.Encoded batch.number (length body)
+  pub left : later ≡ Some (record {
+    batch = batch;
+    sending = Some (record {
+      number = batch.number;
+      body = body;
+      retry = settings;
+      stage = to_send;
+    });
+  })
+  pub desk : new ≡ old
 
 -- It has none, and is dropped: the ledger names its spans.
-pub record DropsBatch (max_body : ℕ) (batch : BatchView) (number : ℕ) (reason : Reason)
-    (old new : Desk) (later : Option Out) : Type 0 where
-  pub numbered : number ≡ batch.number
+pub record DropsBatch (max_body : ℕ) (out : Option Out) (answer : Answer) (old new : Desk)
+    (later : Option Out) : Type 0 where
+  pub batch : BatchView
+  pub reason : Reason
+  pub was : out ≡ Some (record { batch = batch; sending = None })
+  pub answered : answer ≡ answers.Dropped batch.number reason
   pub lacks : LacksBody max_body batch.spans (reason_view reason)
   pub drops : DropsSpans (reason_view reason) batch.spans old new
-  pub out : later ≡ None
+  pub left : later ≡ None
   pub gone : new.out ≡ None
   pub keeps : Keeps old new
 
--- by the answer
-abbrev pub EncodesBatch : ℕ → BatchView → Answer → Desk → Desk → Option Out → Type 0
-EncodesBatch max_body batch (answers.Encoded number size) old new later =
-    HasBody max_body batch number size old new later
-EncodesBatch max_body batch (answers.Dropped number reason) old new later =
-    DropsBatch max_body batch number reason old new later
-EncodesBatch max_body batch _ old new later = ⊥
-
-abbrev pub EncodesAt : ℕ → ExportStage → Out → Answer → Desk → Desk → Option Out → Type 0
-EncodesAt max_body to_encode o answer old new later =
-    EncodesBatch max_body o.batch answer old new later
-EncodesAt max_body _ o answer old new later = DoesNothing (Some o) answer old new later
-
 -- The batch that is out is encoded, if it is to be.
-abbrev pub Encodes : ℕ → Option Out → Answer → Desk → Desk → Option Out → Type 0
-Encodes max_body None answer old new later = DoesNothing None answer old new later
-Encodes max_body (Some o) answer old new later = EncodesAt max_body o.stage o answer old new later
+abbrev pub Encodes : RetryConfig → ℕ → Option Out → Answer → Desk → Desk → Option Out → Type 0
+Encodes retry max_body out answer old new later =
+    HasBody retry max_body out answer old new later
+    ⊎ (DropsBatch max_body out answer old new later
+    ⊎ IsIdle is_to_encode out answer old new later)
 
--- The body was sent in this attempt.
-pub record SendsBody (body : List ℕ) (attempt : ℕ) (batch : BatchView) (answer : Answer)
-    (later : Option Out) (before after : Option (List Handed)) : Type 0 where
-  pub outcome : Outcome
-  pub answered : answer ≡ answers.Sent batch.number attempt outcome
-  pub out : later ≡
-      Some (record { batch = batch; stage = to_judge body attempt (outcome_view outcome) })
-  pub told : Gains (handing batch.number attempt body (outcome_view outcome)) before after
+-- ---- attempts
 
--- It is that of the batch.
-pub record IsBody (body : List ℕ) (batch : BatchView) : Type 0 where
-  pub numbered : 0 < batch.number
-  pub is : IsBodyOf batch.spans body
-
--- The first attempt hands the batch to the exporter.
-pub record SendsFirst (body : List ℕ) (batch : BatchView) (answer : Answer) (old new : Desk)
-    (later : Option Out) (before after : Option (List Handed)) : Type 0 where
-  pub sends : SendsBody body 1 batch answer later before after
-  pub of_batch : IsBody body batch
-  pub does : Does desk.handed old new
+-- The first attempt hands the batch to the exporter, and a later one leaves the desk alone.
+pub record HandsBatch (batch : BatchView) (old new : Desk) : Type 0 where
+  pub does : Does queue.handed old new
   pub with_exporter : IsOut true new batch
   pub keeps : Keeps old new
 
--- A later one is made from its moment on.
-pub record SendsAgain (now moment attempts : ℕ) (body : List ℕ) (batch : BatchView)
-    (answer : Answer) (old new : Desk) (later : Option Out) (before after : Option (List Handed))
-    : Type 0 where
-  pub due : moment ≤ now
-  pub some : 1 ≤ attempts
-  pub sends : SendsBody body (attempts + 1) batch answer later before after
-  pub of_batch : IsBody body batch
-  pub desk_same : new ≡ old
+abbrev pub HandsAt : Bool → BatchView → Desk → Desk → Type 0
+HandsAt false batch old new = HandsBatch batch old new
+HandsAt true batch old new = new ≡ old
 
-pub record IsEarly (now moment : ℕ) (out : Option Out) (answer : Answer) (old new : Desk)
-    (later : Option Out) (before after : Option (List Handed)) : Type 0 where
-  pub early : now < moment
-  pub answered : answer ≡ answers.Early
-  pub same : later ≡ out
-  pub desk_same : new ≡ old
-  pub told : after ≡ before
+abbrev pub attempt_said : ℕ → Attempted → Answer
+attempt_said number (attempted.Sent attempt outcome) = answers.Sent number attempt outcome
+attempt_said number attempted.Early = answers.Early
+attempt_said number attempted.Unjudged = answers.Nothing
 
--- nothing was
+-- What is on its way is sent at this moment, if it may be.
+pub record SendsBatch (now : ℕ) (out : Option Out) (answer : Answer) (old new : Desk)
+    (later : Option Out) (told told' : Option (List Handed)) : Type 0 where
+  pub batch : BatchView
+  pub sending : Sending
+  pub was : out ≡ Some (record { batch = batch; sending = Some sending })
+  pub came : Attempted
+  pub next : Sending
+  pub attempts : Attempts now sending came next told told'
+  pub answered : answer ≡ attempt_said batch.number came
+  pub left : later ≡ Some (record { batch = batch; sending = Some next })
+  pub hands : HandsAt (is_sent_at sending.stage) batch old new
+
 pub record SendsNone (out : Option Out) (answer : Answer) (old new : Desk) (later : Option Out)
-    (before after : Option (List Handed)) : Type 0 where
-  pub idle : IsIdle out answer later
-  pub desk_same : new ≡ old
-  pub told : after ≡ before
-
-abbrev pub SendsAt : ℕ → ExportStage → Out → Answer → Desk → Desk → Option Out
-    → Option (List Handed) → Option (List Handed) → Type 0
-SendsAt now (to_send body) o answer old new later before after =
-    SendsFirst body o.batch answer old new later before after
-SendsAt now (to_retry body attempts moment) o answer old new later before after =
-    SendsAgain now moment attempts body o.batch answer old new later before after
-    ⊎ IsEarly now moment (Some o) answer old new later before after
-SendsAt now _ o answer old new later before after =
-    SendsNone (Some o) answer old new later before after
+    (told told' : Option (List Handed)) : Type 0 where
+  pub idle : IsIdle is_to_send out answer old new later
+  pub nothing_is_sent : told' ≡ told
 
 -- The batch that is out is sent, if it is to be.
 abbrev pub Sends : ℕ → Option Out → Answer → Desk → Desk → Option Out → Option (List Handed)
     → Option (List Handed) → Type 0
-Sends now None answer old new later before after =
-    SendsNone None answer old new later before after
-Sends now (Some o) answer old new later before after =
-    SendsAt now o.stage o answer old new later before after
+Sends now out answer old new later told told' =
+    SendsBatch now out answer old new later told told'
+    ⊎ SendsNone out answer old new later told told'
+
+-- ---- replies
 
 -- The outcome settles the batch.
-pub record Settles (decided : retries.Next) (batch : BatchView) (answer : Answer)
-    (old new : Desk) (later : Option Out) : Type 0 where
+pub record Settles (now word : ℕ) (out : Option Out) (answer : Answer) (old new : Desk)
+    (later : Option Out) : Type 0 where
+  pub batch : BatchView
+  pub sending : Sending
+  pub was : out ≡ Some (record { batch = batch; sending = Some sending })
   pub next : Next
-  pub answered : answer ≡ answers.Replied batch.number next
-  pub is : next_view next ≡ decided
   pub fate : Fate
-  pub ends : fate_of decided ≡ Some fate
-  pub does : SettlesSpans fate batch.spans old new
-  pub out : later ≡ None
+  pub over : IsOver now word sending next fate
+  pub answered : answer ≡ answers.Replied batch.number next
+  pub does : SettlesSpans (fate_view fate) batch.spans old new
+  pub left : later ≡ None
   pub gone : new.out ≡ None
   pub keeps : Keeps old new
 
--- Or it is to be sent again.
-pub record PutsOff (decided : retries.Next) (body : List ℕ) (attempt : ℕ) (batch : BatchView)
-    (answer : Answer) (old new : Desk) (later : Option Out) : Type 0 where
+-- It is to be sent again.
+pub record PutsOff (now word : ℕ) (out : Option Out) (answer : Answer) (old new : Desk)
+    (later : Option Out) : Type 0 where
+  pub batch : BatchView
+  pub sending : Sending
+  pub was : out ≡ Some (record { batch = batch; sending = Some sending })
   pub moment : ℕ
-  pub again : decided ≡ retries.again moment
-  pub next : Next
-  pub answered : answer ≡ answers.Replied batch.number next
-  pub is : next_view next ≡ decided
-  pub out : later ≡ Some (record { batch = batch; stage = to_retry body attempt moment })
-  pub desk_same : new ≡ old
-
-abbrev pub Judges : retries.Next → List ℕ → ℕ → BatchView → Answer → Desk → Desk → Option Out
-    → Type 0
-Judges decided body attempt batch answer old new later =
-    Settles decided batch answer old new later
-    ⊎ PutsOff decided body attempt batch answer old new later
-
-abbrev pub JudgesAt : RetryConfig → ℕ → ℕ → ExportStage → Out → Answer → Desk → Desk → Option Out
-    → Type 0
-JudgesAt retry now word (to_judge body attempt outcome) o answer old new later =
-    Judges (next_after retry attempt outcome now word) body attempt o.batch answer old new later
-JudgesAt retry now word _ o answer old new later = DoesNothing (Some o) answer old new later
+  pub next : Sending
+  pub again : IsAgain now word sending next moment
+  pub answered : answer ≡ answers.Replied batch.number (Again moment)
+  pub left : later ≡ Some (record { batch = batch; sending = Some next })
+  pub desk : new ≡ old
 
 -- The outcome of the last attempt is judged, if the batch that is out was sent.
-abbrev pub Replies : RetryConfig → ℕ → ℕ → Option Out → Answer → Desk → Desk → Option Out → Type 0
-Replies retry now word None answer old new later = DoesNothing None answer old new later
-Replies retry now word (Some o) answer old new later =
-    JudgesAt retry now word o.stage o answer old new later
+abbrev pub Replies : ℕ → ℕ → Option Out → Answer → Desk → Desk → Option Out → Type 0
+Replies now word out answer old new later =
+    Settles now word out answer old new later
+    ⊎ (PutsOff now word out answer old new later ⊎ IsIdle is_to_judge out answer old new later)

@@ -30,7 +30,7 @@ OfRun meaning stream config steps holds report =
 -- is dropped.
 abbrev pub closed_with : Out → Desk → Desk
 closed_with o desk =
-    if is_sent o.stage
+    if is_sent o.sending
     then after_settled retries.Fate.abandoned o.batch.spans desk
     else after_drop dropped.abandoned o.batch.spans desk
 

@@ -14,7 +14,7 @@ use Rattle.model_run.specs.Answers.{RunConfig, AreAnswers}
 use Rattle.model_run.specs.Headline.{Attempt, attempt_by, pending_after}
 use Rattle.span_exporter.specs.Handed.{Handed, Gains}
 use Rattle.trace_run.specs.Table.{IsTable, TableWith}
-use Rattle.trace_run.specs.Out.{Out, shown, IsTied}
+use Rattle.trace_run.specs.Out.{Out, shown, IsTied, IsPrepared}
 use Rattle.trace_run.specs.Headline.{told_attempt, MeansItsBatch, IsCanonical}
 
 -- After these steps, the spans, the queue and the batch that is out are what the steps mean.
@@ -28,6 +28,7 @@ pub record Stands {S R : Type 0} (meaning : S → SamplerMeaning) (stream : R �
   pub bound : desk.next_ticket + length table.spans ≤ length h
   pub closed : desk.closed ≡ list_any (λ x. is_shutdown x.step) h
   pub tied : IsTied desk out
+  pub prepared : IsPrepared run.retry out
   pub out_is : shown out ≡ pending_after run.setup h
   pub answers : AreAnswers run h
 

@@ -69,7 +69,7 @@ impl<A: Allocator> RunReport<A> {
             return desk;
         };
         let is_sent = out.is_sent();
-        let BatchExport { batch, stage: _ } = out;
+        let BatchExport { batch, sending: _ } = out;
         if is_sent {
             desk.settle(batch, Fate::Abandoned);
         } else {

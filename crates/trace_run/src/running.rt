@@ -37,7 +37,7 @@ impl<'a, S: Sampler, R: Rng, A: Allocator + Copy> Running<'a, S, R, A> {
     ) -> (Answer, Option<BatchExport<A>>)
         requires room { length self.old.table.spans < self.old.table.room }
         requires tied { IsTied self.old.queue out }
-        requires ready { IsReady self.old.retry (E.room exporter.old) out }
+        requires ready { IsReady (E.room exporter.old) out }
         ensures goes_on { let x : Answered =
             record { step = step_view step.now; answer = answer_view result.0 } in
             GoesOn S.meaning R.stream self.old.retry self.old.max_body x
@@ -46,7 +46,7 @@ impl<'a, S: Sampler, R: Rng, A: Allocator + Copy> Running<'a, S, R, A> {
             Stands S.meaning R.stream run h self.old.table self.old.queue out
             → Tells (answer_view result.0) (HasItsBody run.setup h)
             (E.handed exporter.old) (E.handed exporter.new) }
-        ensures ready { IsReady self.old.retry (E.room exporter.new) result.1 }
+        ensures ready { IsReady (E.room exporter.new) result.1 }
         ensures room { self.new.table.room ≡ self.old.table.room }
         ensures retry { self.new.retry ≡ self.old.retry }
         ensures max_body { self.new.max_body ≡ self.old.max_body }
@@ -74,14 +74,10 @@ impl<'a, S: Sampler, R: Rng, A: Allocator + Copy> Running<'a, S, R, A> {
             Step::Take { at } => take_batch(&mut self.queue.desk, out, *at),
             Step::Encode => {
                 let desk = &mut self.queue.desk;
-                encode_batch(self.alloc, &self.retry, self.max_body, desk, out, exporter)
+                encode_batch(self.alloc, self.retry, self.max_body, desk, out, exporter)
             }
-            Step::Attempt { at } => {
-                send_batch(&self.retry, &mut self.queue.desk, out, exporter, *at)
-            }
-            Step::Reply { at, word } => {
-                judge_batch(&self.retry, &mut self.queue.desk, out, *at, *word)
-            }
+            Step::Attempt { at } => send_batch(&mut self.queue.desk, out, exporter, *at),
+            Step::Reply { at, word } => judge_batch(&mut self.queue.desk, out, *at, *word),
         }
     }
 }

@@ -67,7 +67,7 @@ loop-step-preserved g c =
       told = rw (c.push_reserved.ensures.items, pushed, attempts-push h x)
           (tells-more _ _ _ _ _ _ (tells-still _ _ _ _ _ still i.told)
           (tells-still _ _ _ _ _ still (c.take_step-answer.ensures.told run h i.stands)));
-      ready = rw i.retry at c.take_step-answer.ensures.ready;
+      ready = c.take_step-answer.ensures.ready;
       retry = c.take_step-answer.ensures.retry ∙ i.retry;
       max_body = c.take_step-answer.ensures.max_body ∙ i.max_body;
       count =

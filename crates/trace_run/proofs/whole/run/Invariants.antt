@@ -17,7 +17,7 @@ invariant-loop-step g l = record {
       (HasItsBody (run_config g.S.Sampler.meaning g.R.Rng.stream l.fn.config).setup
       (history_view (take l.step-index l.steps) l.answers.items))
       (g.E.Exporter.handed l.fn.exporter) (g.E.Exporter.handed l.exporter);
-  ready : IsReady l.fn.config.retry (g.E.Exporter.room l.exporter) l.out;
+  ready : IsReady (g.E.Exporter.room l.exporter) l.out;
   retry : l.running.retry ≡ l.fn.config.retry;
   max_body : l.running.max_body ≡ l.fn.config.max_body;
   count : length l.answers.items ≡ l.step-index;

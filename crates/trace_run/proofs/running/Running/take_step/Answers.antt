@@ -73,14 +73,14 @@ pub returns-in-Encode-clause-goes_on : goal.returns-in-Encode-clause-goes_on
 returns-in-Encode-clause-goes_on g c = λ run h small same max at.
     rw c.in-Encode.is
     (encode-on g.S.Sampler.meaning g.R.Rng.stream run h _ _ _
-    (rw (← c.self-in-Encode.view_is) at at) _
+    (rw (← c.self-in-Encode.view_is) at at) _ (rw (← c.self-in-Encode.view_is) at same) _
     (rw (← c.self-in-Encode.view_is) at max) c.encode_batch.result.0 c.encode_batch.new.desk
     c.encode_batch.result.1 c.encode_batch.ensures.encodes)
 
 pub returns-in-Encode-clause-told : goal.returns-in-Encode-clause-told
 returns-in-Encode-clause-told g c =
     λ run h at. tells-nothing (answer_view c.encode_batch.result.0) _ _ _
-    (encode-tells _ _ _ c.encode_batch.result.0 _ _ c.encode_batch.ensures.encodes)
+    (encode-tells _ _ _ _ c.encode_batch.result.0 _ _ c.encode_batch.ensures.encodes)
     c.encode_batch.ensures.nothing_is_sent
 
 pub returns-in-Attempt-clause-goes_on : goal.returns-in-Attempt-clause-goes_on
@@ -99,16 +99,14 @@ pub returns-in-Reply-clause-goes_on : goal.returns-in-Reply-clause-goes_on
 returns-in-Reply-clause-goes_on g c = λ run h small same max at.
     rw c.in-Reply.is
     (reply-on g.S.Sampler.meaning g.R.Rng.stream run h _ _ _
-    (rw (← c.self-in-Reply.view_is) at at) _
-    (rw (← c.self-in-Reply.view_is) at same) c.in-Reply.at c.in-Reply.word c.judge_batch.result.0
+    (rw (← c.self-in-Reply.view_is) at at) c.in-Reply.at c.in-Reply.word c.judge_batch.result.0
     c.judge_batch.new.desk c.judge_batch.result.1 c.judge_batch.ensures.replies)
 
 pub returns-in-Reply-clause-told : goal.returns-in-Reply-clause-told
 returns-in-Reply-clause-told g c =
     λ run h at. tells-nothing (answer_view c.judge_batch.result.0) _ _ _
-    (reply-tells _ _ _ _ _ c.judge_batch.result.0 _ _ c.judge_batch.ensures.replies) refl
+    (reply-tells _ _ _ _ c.judge_batch.result.0 _ _ c.judge_batch.ensures.replies) refl
 
 pub returns-in-Reply-clause-ready : goal.returns-in-Reply-clause-ready
 returns-in-Reply-clause-ready g c =
-    rw (← c.self-in-Reply.view_is)
-    (c.judge_batch.ensures.ready _ (rw (← c.self-in-Reply.view_is) at c.requires.ready))
+    c.judge_batch.ensures.ready (g.E.Exporter.room c.args.exporter.now) c.requires.ready
