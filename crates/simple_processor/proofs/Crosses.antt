@@ -17,7 +17,7 @@ use Rattle.account_book.proofs.book.Account.TheSendSync as account
 use Rattle.account_book.proofs.book.Book.TheSendSync as book
 use Rattle.simple_processor.specs.contracts.export.ExportState as ExportState
 use Rattle.simple_processor.specs.contracts.export.ExportState.TheInside as export
-use Rattle.simple_processor.specs.contracts.encoder.Encoder as Encoder
+use Rattle.simple_processor.specs.contracts.sender.Sender as Sender
 use Rattle.processor_account.specs.contracts.state.AccountState as AccountState
 use Rattle.simple_processor.specs.contracts.account.SimpleOrigin as SimpleOrigin
 use Rattle.simple_processor.specs.contracts.pass.SimplePass as SimplePass
@@ -25,14 +25,14 @@ use Rattle.simple_processor.specs.contracts.pass.SimplePass.TheInside as pass
 use Rattle.simple_processor.specs.contracts.shared.Shared as Shared
 use Rattle.simple_processor.specs.contracts.shared.Shared.TheInside as shared
 
-encoder_send : IsSend (Encoder.the_row Heap.the_row ghosts)
-encoder_send = search (sendable, data_send, heap.crosses) depth 60 fits 20000
+sender_send : IsSend (Sender.the_row Heap.the_row ghosts)
+sender_send = search (sendable, data_send, heap.crosses) depth 60 fits 20000
 
 -- what the lock guards, and the lock
 export_send : (E : RattleType) → IsSend E → IsSend (ExportState.the_row E Heap.the_row ghosts)
 export_send E e =
     let fields : FieldsHave IsSend (export.the_type E Heap.the_row ghosts).parts =
-    search (sendable, as_row_send, e, encoder_send, ledger_send, fates.the_send) depth 30 in
+    search (sendable, as_row_send, e, sender_send, ledger_send, fates.the_send) depth 30 in
     view_send _ _ _ _ _ (declared_send (export.the_type E Heap.the_row ghosts) fields)
 
 module _ (J E : RattleType) (g : naming.Ghosts J.Denot) (h : exporter.Ghosts E.Denot)

@@ -194,11 +194,12 @@ handed_step told told' s s' span ticket a h =
     let f : drop_count s' ≡ drop_count s = ap drop_count h.state in
     omega arith in
     let end : SpanEnd = accepted (with_ticket ticket span) in
-    let handing : Handing = record { span = with_ticket ticket span; outcome = h.outcome } in
+    let handing : Handing =
+    record { span = with_ticket ticket span; outcome = h.sent.body.outcome } in
     let names : List Entry = lost_names h.fate (with_ticket ticket span ∷ []) in
     let named : losses_of (handing ∷ []) ≡ names =
     append-nil (lost_by_attempt handing)
-    ∙ ap (λ o. lost_as o (with_ticket ticket span ∷ [])) h.ended in
+    ∙ ap (λ o. lost_as o (with_ticket ticket span ∷ [])) h.sent.ended in
     record {
       es = end ∷ [];
       ps = [];
@@ -217,7 +218,7 @@ handed_step told told' s s' span ticket a h =
       handed_spans = refl;
       as_told = record {
         attempts = ap (λ x. x ∷ []) (sym h.sent.means);
-        outcomes = ap (λ x. x ∷ []) (sym h.sent.answered);
+        outcomes = refl;
       };
       lost =
           subst (λ (es : List Entry). IsPermutation (losses_of (handing ∷ []) ++ s.lost) es)
@@ -232,7 +233,7 @@ handed_step told told' s s' span ticket a h =
           ∙ sym (fates-more (fates_of had) h.fate)
           ∙ ap fate_counts
           (sym (some-more (λ (x : Handed). fate_of (next_of x.outcome)) had h.sent.body h.fate
-          (ap (λ o. fate_of (next_of o)) h.sent.answered ∙ h.ended)));
+          h.sent.ended));
       handed = ap (λ (x : State). x.handed) h.state;
       news =
           subst (λ (n : ℕ). News (ticket_count s) n (end ∷ [])) (sym count)

@@ -5,7 +5,7 @@ use Rattle.std.specs.Prelude.{◌∷◌, ◌++◌, length, Option, Some, None}
 use Rattle.model_span.specs.Spans.{SpanData, with_ticket}
 use Rattle.model_span.specs.Dropped.{Reason, encode_memory, too_large, Entry, entry_of}
 use Rattle.model_export.specs.Export.{LacksBody}
-use Rattle.model_desk.specs.Retries.{Fate, Outcome, fate_of, next_of}
+use Rattle.model_desk.specs.Retries.{Fate, fate_of, next_of}
 use Rattle.model_desk.specs.Queue.{lost_names}
 use Rattle.model_desk.specs.Desks.{DropCounts, FateCounts, capped, no_drops, no_fates, with_fate}
 use Rattle.otlp_span.specs.Dropped.{reason_view}
@@ -100,25 +100,24 @@ pub record CountsOne (reason : Reason) (old new : drops.DropCounts) : Type 0 whe
   pub others : IsOfEncodings old → IsOfEncodings new
   pub state : (s : State) → with_counts new s ≡ with_drop reason (with_counts old s)
 
--- An exporter that shows its attempts has one more, the one of this span, with this outcome.
+-- An exporter that shows its attempts has one more, the one of this span, whose outcome ends its
+-- body with this fate.
 pub record IsSent (max_body : ℕ) (told told' : Option (List Handed)) (span : SpanData)
-    (outcome : Outcome) : Type 0 where
+    (fate : Fate) : Type 0 where
   pub body : Handed
   pub fits : Fits max_body body
   pub gains : Gains (body ∷ []) told told'
   pub means : attempt_in body ≡ attempt_of_span span
-  pub answered : body.outcome ≡ outcome
+  pub ended : fate_of (next_of body.outcome) ≡ Some fate
 
--- The span was handed to the exporter under the next ticket, and its attempt ended so. It is named
--- as lost where its fate says that.
+-- The span was handed to the exporter under the next ticket. It is named as lost where the fate of
+-- its body says that.
 pub record IsHanded (told told' : Option (List Handed)) (s : State) (span : SpanData) (ticket : ℕ)
     (s' : State) : Type 0 where
   pub admits : s.closed ≡ false
   pub is_next : ticket ≡ ticket_count s
-  pub outcome : Outcome
-  pub sent : IsSent s.max_body told told' (with_ticket ticket span) outcome
   pub fate : Fate
-  pub ended : fate_of (next_of outcome) ≡ Some fate
+  pub sent : IsSent s.max_body told told' (with_ticket ticket span) fate
   pub state : s' ≡ record s {
     lost = lost_names fate (with_ticket ticket span ∷ []) ++ s.lost;
     handed = s.handed + 1;

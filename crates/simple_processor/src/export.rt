@@ -1,23 +1,17 @@
 //! What the lock guards: the exporter, the ledgers and counts.
-ghost use Rattle.std.specs.Prelude.{◌≡◌, ◌+◌, ◌-◌, ◌^◌, ◌<◌, [], ◌∷◌, length, Some, IfErr, IfOk};
-ghost use Rattle.std.specs.Prelude.{OnErr, option_map, true};
+ghost use Rattle.std.specs.Prelude.{◌≡◌, ◌+◌, ◌-◌, ◌^◌, ◌<◌, ◌∷◌, length, option_map, true};
 ghost use Rattle.model_span.specs.Dropped.{entry_of};
-ghost use Rattle.model_export.specs.Export.{LacksBody};
-ghost use Rattle.model_desk.specs.Retries as retries;
-ghost use Rattle.model_desk.specs.Retries.{next_of};
-ghost use Rattle.retry_core.specs.Retries.{fate_view, outcome_view};
 ghost use Rattle.otlp_span.specs.Dropped.{entry_view, reason_view};
 ghost use Rattle.otlp_proto.specs.Bodies.{reason_of};
-ghost use Rattle.simple_processor.specs.ExportStates.{Answers, AreTotals, CountsOne, IsSent, Pops};
-ghost use Rattle.simple_processor.specs.ExportStates.{PopsLost, new_state};
+ghost use Rattle.simple_processor.specs.ExportStates.{Answers, AreTotals, CountsOne, Pops, PopsLost};
+ghost use Rattle.simple_processor.specs.ExportStates.{new_state};
 
-use crate::encoder::Encoder;
 use crate::processor::SimpleAccounts;
+use crate::sender::Sender;
 use batch_desk::{FateCounts, Totals, loss_reason};
 use drop_ledger::{DropCounts, Ledger};
 use otlp_proto::EncodeFault;
 use otlp_span::{Entry, Reason, SpanData};
-use retry_core::{Fate, Outcome, RetryConfig, decide};
 use span_exporter::Exporter;
 use std::alloc::Allocator;
 use std::marker::Model;
@@ -27,7 +21,7 @@ use trace_api::Ended;
 #[derive(Drop)]
 pub(crate) struct ExportState<E, A: Allocator> {
     exporter: E,
-    encoder: Encoder<A>,
+    sender: Sender<A>,
     // The names of dropped spans, and those of lost spans.
     ledger: Ledger<A>,
     lost: Ledger<A>,
@@ -48,7 +42,7 @@ impl<E, A: Allocator> Model for ExportState<E, A> {
     ghost view = { λ d. record {
       exporter = d.exporter;
       state = record {
-        max_body = d.encoder;
+        max_body = d.sender;
         ledger = d.ledger;
         lost = d.lost;
         handed = d.handed;
@@ -62,7 +56,7 @@ impl<E, A: Allocator> Model for ExportState<E, A> {
     } };
 
     ghost invariant = { λ d. AreCounts (record {
-      max_body = d.encoder;
+      max_body = d.sender;
       ledger = d.ledger;
       lost = d.lost;
       handed = d.handed;
@@ -77,12 +71,12 @@ impl<E, A: Allocator> Model for ExportState<E, A> {
 
 impl<E: Exporter, A: Allocator + Copy> ExportState<E, A> {
     /// What a processor of this exporter begins with.
-    pub(crate) fn new(exporter: E, encoder: Encoder<A>) -> ExportState<E, A>
-        ensures { result ≡ record { exporter = exporter; state = new_state encoder } }
+    pub(crate) fn new(exporter: E, sender: Sender<A>) -> ExportState<E, A>
+        ensures { result ≡ record { exporter = exporter; state = new_state sender } }
     {
         ExportState {
             exporter,
-            encoder,
+            sender,
             ledger: Ledger::new(),
             lost: Ledger::new(),
             handed: 0,
@@ -109,10 +103,9 @@ impl<E: Exporter, A: Allocator + Copy> ExportState<E, A> {
         let ticket = self.handed + (self.dropped.encode_memory + self.dropped.too_large);
         self.closed = ticket + 1 == u64::MAX;
         span.set_ticket(ticket);
-        let (span, sent) = send(&mut self.exporter, &mut self.encoder, span);
+        let (span, sent) = self.sender.send(span, &mut self.exporter);
         match sent {
-            Ok(outcome) => {
-                let fate = fate_of(outcome);
+            Ok(fate) => {
                 self.fates.add(fate);
                 self.handed += 1;
                 if let Some(reason) = loss_reason(fate) {
@@ -163,7 +156,7 @@ impl<E: Exporter, A: Allocator + Copy> ExportState<E, A> {
     {
         let ExportState {
             exporter,
-            encoder: _,
+            sender: _,
             ledger,
             lost,
             handed,
@@ -208,40 +201,4 @@ fn count_one(dropped: &mut DropCounts, fault: &EncodeFault)
     ensures { CountsOne (reason_view (reason_of fault.now)) dropped.old dropped.new }
 {
     dropped.add(fault.reason(), 1);
-}
-
-/// Encodes a span alone, and hands its body to the exporter, once. The span comes back.
-fn send<E: Exporter, A: Allocator + Copy>(
-    exporter: &mut E,
-    encoder: &mut Encoder<A>,
-    span: SpanData<A>,
-) -> (SpanData<A>, Result<Outcome, EncodeFault>)
-    requires { span.ticket < 2 ^ 64 - 1 }
-    ensures same { encoder.new ≡ encoder.old }
-    ensures span { result.0 ≡ span }
-    ensures sent { IfOk result.1 (λ outcome. IsSent encoder.old (E.handed exporter.old)
-        (E.handed exporter.new) span (outcome_view outcome)) }
-    ensures lacks { IfErr result.1 (λ fault.
-        LacksBody encoder.old (span ∷ []) (reason_view (reason_of fault))) }
-    ensures nothing_is_sent { OnErr result.1 (E.handed exporter.new ≡ E.handed exporter.old) }
-{
-    let number = span.ticket() + 1;
-    let (span, encoded) = encoder.encode(span);
-    let body = match encoded {
-        Ok(body) => body,
-        Err(fault) => return (span, Err(fault)),
-    };
-    if exporter.prepare(body.len(), 1).is_err() {
-        return (span, Err(EncodeFault::OutOfMemory));
-    }
-    let outcome = exporter.export(number, 1, body.as_slice());
-    (span, Ok(outcome))
-}
-
-/// How an attempt ends that is the only one of its body.
-fn fate_of(outcome: Outcome) -> Fate
-    ensures { retries.fate_of (next_of (outcome_view outcome)) ≡ Some (fate_view result) }
-{
-    let next = decide(&RetryConfig::single_attempt(), 1, &outcome, 0, 0);
-    next.fate().unwrap()
 }

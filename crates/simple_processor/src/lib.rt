@@ -7,11 +7,11 @@
 #![tactic(auto)]
 
 mod account;
-mod encoder;
 mod export;
 mod fault;
 mod pass;
 mod processor;
+mod sender;
 mod shared;
 
 pub use account::SimpleBlank;

@@ -16,10 +16,10 @@ ghost use Rattle.simple_processor.specs.Kept.{given_tickets};
 ghost use Rattle.processor_account.specs.declared.passes.TheConstants.{MAX_PASSES};
 
 use crate::account::{Began, Begins, SimpleBlank, SimpleState};
-use crate::encoder::Encoder;
 use crate::export::ExportState;
 use crate::fault::SimpleFault;
 use crate::pass::SimplePass;
+use crate::sender::Sender;
 use crate::shared::Shared;
 use account_book::{Account, Naming};
 use batch_desk::Totals;
@@ -130,7 +130,7 @@ impl<J: Naming, E: Exporter, R: Copy, A: Allocator + Copy> SimpleProcessor<J, E,
         if passes == 0 || passes > MAX_PASSES {
             return Err(SimpleFault::BadPasses);
         }
-        let encoder = Encoder::new(alloc, max_body)?;
+        let sender = Sender::new(alloc, max_body)?;
         let mut book = blank.named::<J>();
         let mut account = book.open::<SimpleState>();
         let began = Began {
@@ -141,7 +141,7 @@ impl<J: Naming, E: Exporter, R: Copy, A: Allocator + Copy> SimpleProcessor<J, E,
         book.record::<Began<E>, Begins<E>>(&mut account, &began);
         let accounts = book.open_all::<SimpleState, A>(alloc, passes)?;
         let shared = Shared {
-            export: Some(ExportState::new(exporter, encoder)),
+            export: Some(ExportState::new(exporter, sender)),
             book,
             passes,
             max_body,

@@ -16,6 +16,6 @@ invariant_of-shared g c =
     c.open-account.new.self c.record.new.self c.open_all.new.self opened c.open-account.result
     c.record.new.account
     (ap (λ d. handed d.exporter) c.new-2.ensures ∙ ap handed (sym c.of.ensures))
-    (ap (λ d. d.state) c.new-2.ensures ∙ ap new_state c.in_ok-encoder.ensures) c.named-book.ensures
+    (ap (λ d. d.state) c.new-2.ensures ∙ ap new_state c.in_ok-sender.ensures) c.named-book.ensures
     c.open-account.ensures.book c.record.ensures.book c.record.ensures.account
     c.in_ok-accounts.ensures.book few c.in_ok-accounts.ensures.first
