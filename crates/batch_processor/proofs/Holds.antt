@@ -25,7 +25,7 @@ use Rattle.model_processor.specs.Passes.{PassAccount}
 use Rattle.model_processor.specs.Worker.{WorkerAccount}
 use Rattle.model_processor.specs.WorkerClauses.{Origin}
 use Rattle.model_processor.specs.AnyAccounts as holders
-use Rattle.model_processor.specs.AnyAccounts.{AnyAccount, account_in, after_flush, after_shutdown}
+use Rattle.model_processor.specs.AnyAccounts.{AnyAccount, account_in}
 use Rattle.model_processor.specs.AnyAccounts.{on_pass, on_worker, origin_in, pass, pass_accounts}
 use Rattle.model_processor.specs.AnyAccounts.{worker, worker_in}
 use Rattle.model_processor.specs.Kept.{Agrees, IsShared, Kept, shown_out}
@@ -33,7 +33,7 @@ use Rattle.model_processor.proofs.AccountState.{agrees_there, origin_there}
 use Rattle.model_processor.proofs.Passes.{full_agrees, late_agrees, queued_agrees}
 use Rattle.model_processor.proofs.Workers.{take_agrees}
 use Rattle.batch_processor.specs.Holds.{Asks, Guarded, InHold, IsBatchOf, IsBatchSize}
-use Rattle.batch_processor.specs.Holds.{IsNamedBatchOf, IsSettledBatchOf, IsTold, Shuts}
+use Rattle.batch_processor.specs.Holds.{IsNamedBatchOf, IsSettledBatchOf, IsTold, after_ask}
 use Rattle.batch_processor.specs.declared.fault.WorkerLeft.{WorkerLeft}
 use Rattle.batch_processor.specs.declared.pass.Flushed.{Flushed}
 use Rattle.processor_account.specs.Views.{after_end}
@@ -294,28 +294,17 @@ out_is_some desk = by_out desk.out
 
 -- ---- what a pass asked for, and its answer
 
--- A flush whose account notes the next ticket and the accepted count asks for all so far.
-pub asks_of : (g : Guarded) (seen : Desk) (h h' : AnyAccount) (mark : ℕ) → InHold g (account_in h)
-    → seen ≡ g.desk → mark ≡ accepted_count g.desk
-    → h' ≡ on_pass (after_flush seen.next_ticket (accepted_count seen)) h → Asks g mark h h'
-asks_of g seen h h' mark hold at count told = record {
+-- A pass whose account notes the next ticket and the accepted count asks for all so far.
+pub asks_of : (closes : Bool) (g : Guarded) (seen : Desk) (h h' : AnyAccount) (mark : ℕ)
+    → InHold g (account_in h) → seen ≡ g.desk → mark ≡ accepted_count g.desk
+    → h' ≡ on_pass (after_ask closes seen.next_ticket (accepted_count seen)) h
+    → Asks closes g mark h h'
+asks_of closes g seen h h' mark hold at count told = record {
   hold = hold;
   mark_is = count;
   account =
-      told ∙ ap (λ (d : Desk). on_pass (after_flush d.next_ticket (accepted_count d)) h) at
-      ∙ ap (λ (n : ℕ). on_pass (after_flush g.desk.next_ticket n) h) (sym count);
-}
-
--- A shutdown whose account notes the next ticket and the accepted count asks for all so far.
-pub shuts_of : (g : Guarded) (seen : Desk) (h h' : AnyAccount) (mark : ℕ) → InHold g (account_in h)
-    → seen ≡ g.desk → mark ≡ accepted_count g.desk
-    → h' ≡ on_pass (after_shutdown seen.next_ticket (accepted_count seen)) h → Shuts g mark h h'
-shuts_of g seen h h' mark hold at count told = record {
-  hold = hold;
-  mark_is = count;
-  account =
-      told ∙ ap (λ (d : Desk). on_pass (after_shutdown d.next_ticket (accepted_count d)) h) at
-      ∙ ap (λ (n : ℕ). on_pass (after_shutdown g.desk.next_ticket n) h) (sym count);
+      told ∙ ap (λ (d : Desk). on_pass (after_ask closes d.next_ticket (accepted_count d)) h) at
+      ∙ ap (λ (n : ℕ). on_pass (after_ask closes g.desk.next_ticket n) h) (sym count);
 }
 
 -- `Flushed` is a right answer where the desk is flushed up to the mark.

@@ -1,38 +1,41 @@
 -- What each turn of the worker's pass does.
-use Rattle.std.proofs.Common.{◌≡◌, ℕ, ◌+◌, ◌≤◌, min, Bool, true, false, List, [], ◌∷◌, ◌++◌, length}
-use Rattle.std.proofs.Common.{sym, refl, ap, ◌∙◌, subst, arith}
+use Rattle.std.proofs.Common.{◌≡◌, ℕ, ◌+◌, ◌<◌, ◌≤◌, min, Bool, true, false, List, [], ◌∷◌, ◌++◌}
+use Rattle.std.proofs.Common.{length, sym, refl, ap, ◌∙◌, subst, arith}
 use Rattle.std.specs.Prelude.{IfSome, Option, Some, None, option_map, nat_lt, if◌then◌else◌}
 use Rattle.std.specs.List.{AllByRecursion, flat_map}
 use Rattle.std.specs.Option.{option_map_or}
-use Rattle.std.proofs.lemmas.List.{append-nil, append_assoc, length-append}
+use Rattle.std.proofs.lemmas.List.{append-nil, append_assoc, length-append, nil_from_length}
 use Rattle.std.proofs.lemmas.Grind.{flat_map-append}
 use Rattle.account_book.proofs.Facts.{each_append}
 use Rattle.model_span.specs.Spans.{SpanData}
 use Rattle.model_span.specs.Dropped.{Reason}
 use Rattle.model_export.specs.Export.{LacksBody}
-use Rattle.model_desk.specs.Retries.{Outcome, Fate, again, fate_of, next_of}
+use Rattle.model_desk.specs.Retries.{Outcome, Fate, again, fate_of, next_of, abandoned}
 use Rattle.model_desk.specs.Retries as retries
 use Rattle.model_desk.specs.Waits.{RetryConfig, next_after, retried, wait_ns, greatest_moment}
 use Rattle.model_desk.proofs.Again.{again-few}
 use Rattle.span_exporter.specs.Handed.{Handed, Gains, handing}
 use Rattle.batch_desk.specs.Batch.{BatchView}
+use Rattle.batch_sending.specs.Sendings as sendings
+use Rattle.batch_sending.specs.Sendings.{Sending, Stage, attempts_at, is_pending_at, is_sent_at}
+use Rattle.batch_sending.specs.Sendings.{to_judge, to_retry, to_send}
+use Rattle.batch_sending.specs.Answers.{MayBeSentAt}
 use Rattle.model_processor.specs.Worker.{EndedBatch, OutBatch, WorkerAccount, settled, dropped}
-use Rattle.model_processor.specs.WorkerClauses.{EachLeadsOn, EndByWork, IsByWork, IsOutByWork}
-use Rattle.model_processor.specs.WorkerClauses.{IsSent, IsSentSoFar, LeadsTo, Origin}
+use Rattle.model_processor.specs.WorkerClauses.{EachLeadsOn, EndByWork, IsByWork, IsBodyOf}
+use Rattle.model_processor.specs.WorkerClauses.{IsOutByWork, IsSent, IsSentSoFar, LeadsTo, Origin}
 use Rattle.model_processor.specs.WorkerClauses.{WorksUntilItLeaves, abandon, abandon_out}
-use Rattle.model_processor.specs.AnyAccounts.{AnyAccount, after_drained, after_drop, after_handed}
+use Rattle.model_processor.specs.AnyAccounts.{AnyAccount, after_drained, after_drop}
 use Rattle.model_processor.specs.AnyAccounts.{after_left, after_settle, after_take, ended_with}
 use Rattle.model_processor.specs.AnyAccounts.{handed_with, on_worker, origin_in, settled_with}
 use Rattle.model_processor.specs.AnyAccounts.{worker, worker_in}
-use Rattle.batch_processor.specs.Holds.{IsBatchOf, IsBatchSize, IsSentBatchOf}
-use Rattle.batch_processor.specs.Working.{GoesOn, Hand, HandStage, HasLeft, HasRoom, IsExported}
-use Rattle.batch_processor.specs.Working.{IsPassWith, IsPrepared, IsReady, IsStage, IsWorking}
-use Rattle.batch_processor.specs.Working.{MayBeSent, IsWorkingWith, StepsAside, TakesStep, Work}
-use Rattle.batch_processor.specs.Working.{WorkerState, attempts_by, attempts_from, attempts_of}
-use Rattle.batch_processor.specs.Working.{attempts_out, attempts_with, encoded_at, hand_at}
-use Rattle.batch_processor.specs.Working.{handed_at, in_hand, outcomes_out, pending_at, to_encode}
-use Rattle.batch_processor.specs.Working.{to_judge, to_retry, to_send, with_outcomes, work_in}
-use Rattle.batch_processor.specs.Working.{work_of}
+use Rattle.batch_processor.specs.Holds.{IsBatchSize, TakesBatch}
+use Rattle.batch_processor.specs.Working.{GoesOn, Hand, HasLeft, HasRoom, IsAsFar}
+use Rattle.batch_processor.specs.Working.{IsPassWith, IsPrepared, IsReady, IsWorkingWith}
+use Rattle.batch_processor.specs.Working.{LeadTo, StepsAside, TakesStep, Work, WorkerState}
+use Rattle.batch_processor.specs.Working.{attempts_by, attempts_from, attempts_of, attempts_out}
+use Rattle.batch_processor.specs.Working.{attempts_with, begun, begun_at, hand_at}
+use Rattle.batch_processor.specs.Working.{handed_at, handed_in, in_hand, is_pending_in}
+use Rattle.batch_processor.specs.Working.{outcomes_out, with_outcomes, work_in}
 
 -- ---- attempts
 
@@ -152,383 +155,599 @@ goes_on told told' told'' old mid new a b = record {
 abbrev before : WorkerAccount → List Handed
 before w = flat_map (λ (b : EndedBatch). attempts_by b.number b.ending) w.ended
 
-attempts_at : (origin : Origin) (w : WorkerAccount) (outcomes : List Outcome) (hand : Option Hand)
-    (b : OutBatch)
-    → w.out ≡ Some b
-    → attempts_of (work_of origin w outcomes hand).account
-    ≡ before w ++ attempts_with b.number b.body (outcomes ++ in_hand [] pending_at hand)
-attempts_at origin w outcomes hand b out =
-    ap (λ (o : Option OutBatch).
-    before w ++ attempts_out (with_outcomes (outcomes ++ in_hand [] pending_at hand) o))
-    out
+module _ (s : WorkerState) (hand : Option Hand) where
+  attempts_to : (b : OutBatch) → s.account.out ≡ Some b
+      → attempts_of (work_in s hand).account
+      ≡ before s.account ++ attempts_with b.number b.body s.outcomes
+  attempts_to b out =
+      ap (λ (o : Option OutBatch). before s.account ++ attempts_out (with_outcomes s.outcomes o))
+      out
 
-attempts_none : (origin : Origin) (w : WorkerAccount) (outcomes : List Outcome) (hand : Option Hand)
-    → w.out ≡ None → attempts_of (work_of origin w outcomes hand).account ≡ before w
-attempts_none origin w outcomes hand none =
-    ap (λ (o : Option OutBatch).
-    before w ++ attempts_out (with_outcomes (outcomes ++ in_hand [] pending_at hand) o))
-    none
-    ∙ append-nil (before w)
+  attempts_none : s.account.out ≡ None → attempts_of (work_in s hand).account ≡ before s.account
+  attempts_none none =
+      ap (λ (o : Option OutBatch). before s.account ++ attempts_out (with_outcomes s.outcomes o))
+      none
+      ∙ append-nil (before s.account)
 
-module _ (origin : Origin) (w : WorkerAccount) (outcomes : List Outcome) where
-  -- a batch is taken
-  module _ (k : IsWorking origin w outcomes None) (batch : BatchView)
-      (room : batch.room ≡ origin.desk.batch) (size : IsBatchSize origin batch.spans) where
-    -- A worker that takes a batch has it in hand, to be encoded.
-    pub taken_works : IsWorking origin (after_take batch.number batch.spans w) outcomes
-        (Some (record { batch = batch; stage = to_encode }))
-    taken_works = record {
-      here = k.here;
-      retry = k.retry;
-      by_work = k.by_work;
-      again = k.again;
-      tied = record { out = refl; room = room; some = size.0; few = size.1; stage = k.tied.1 };
-    }
+-- the batch that is out, as the worker's account has it
+abbrev out_with : BatchView → Option (List ℕ) → OutBatch
+out_with batch body =
+    record { number = batch.number; spans = batch.spans; body = body; outcomes = [] }
 
-    -- The take of a batch hands nothing to the exporter and ends no batch.
-    pub taken_goes : (told : Option (List Handed))
-        → GoesOn told told (work_of origin w outcomes None)
-        (work_of origin (after_take batch.number batch.spans w) outcomes
-        (Some (record { batch = batch; stage = to_encode })))
-    taken_goes told =
-        goes_quiet told told (work_of origin w outcomes None)
-        (work_of origin (after_take batch.number batch.spans w) outcomes
-        (Some (record { batch = batch; stage = to_encode })))
-        refl refl
-        (append-nil (before w) ∙ sym (attempts_none origin w outcomes None k.tied.0)) refl refl
-        (stays_here w k.here)
+-- ---- steps without a batch in hand
 
-  -- all is drained
-  module _ (k : IsWorking origin w outcomes None) where
-    -- A worker whose account notes that all is drained still has no batch in hand.
-    pub drained_works : IsWorking origin (after_drained w) outcomes None
-    drained_works = record {
-      here = k.here;
-      retry = k.retry;
-      by_work = k.by_work;
-      again = k.again;
-      tied = k.tied;
-    }
+-- Work that changes nothing goes on as the contract says.
+pub no_turn : (told : Option (List Handed)) (work : Work) → GoesOn told told work work
+no_turn told work = goes_quiet told told work work refl refl refl refl refl (λ _. refl)
 
-    -- The note that all is drained hands nothing to the exporter and ends no batch.
-    pub drained_goes : (told : Option (List Handed))
-        → GoesOn told told (work_of origin w outcomes None)
-        (work_of origin (after_drained w) outcomes None)
-    drained_goes told =
-        goes_quiet told told (work_of origin w outcomes None)
-        (work_of origin (after_drained w) outcomes None) refl refl refl refl refl
-        (stays_here w k.here)
+-- A worker whose state is unchanged has taken a step that leaves the exporter alone.
+pub no_step : (old new : WorkerState) (hand : Option Hand) → IsWorkingWith old hand → new ≡ old
+    → StepsAside old hand new hand
+no_step old new hand k is = subst (λ (s : WorkerState). StepsAside old hand s hand) (sym is)
+    (λ told room prepared. record {
+      ready = record { works = k; prepared = prepared };
+      goes_on = no_turn told (work_in old hand);
+    })
 
-  -- a batch is encoded
-  module _ (batch : BatchView) (k : IsWorking origin w outcomes (hand_at batch to_encode)) where
-    encoded_works : (body : List ℕ) → MayBeSent origin.max_body batch.spans body
-        → IsWorking origin w outcomes (hand_at batch (to_send body))
-    encoded_works body means = record {
-      here = k.here;
-      retry = k.retry;
-      by_work = k.by_work;
-      again = k.again;
-      tied = record {
-        out = k.tied.out;
-        room = k.tied.room;
-        some = k.tied.some;
-        few = k.tied.few;
-        stage = (k.tied.stage, means);
-      };
-    }
-
-    -- or it has no body, and is dropped
-    module _ (reason : Reason) (lacks : LacksBody origin.max_body batch.spans reason) where
-      abbrev lacking_batch : EndedBatch
-      lacking_batch = record { number = batch.number; spans = batch.spans; ending = dropped reason }
-
-      lacking_is : (after_drop reason w).ended ≡ w.ended ++ lacking_batch ∷ []
-      lacking_is =
-          ap (λ (x : Option OutBatch). w.ended ++ ended_with (λ _. dropped reason) x) k.tied.out
-
-      lacking_by_work : IsByWork origin lacking_batch
-      lacking_by_work = record { some = k.tied.some; few = k.tied.few; ending = lacks }
-
-      -- A worker that drops a batch without a body has no batch in hand.
-      pub lacking_works : IsWorking origin (after_drop reason w) outcomes None
-      lacking_works = record {
-        here = k.here;
-        retry = k.retry;
-        by_work =
-            subst (AllByRecursion (IsByWork origin)) (sym lacking_is)
-            (each_append (IsByWork origin) w.ended (lacking_batch ∷ []) k.by_work
-            (lacking_by_work, tt));
-        again = k.again;
-        tied = (refl, k.tied.stage);
-      }
-
-      -- The drop of a batch without a body ends this batch by work, with no attempt.
-      pub lacking_goes : (told told' : Option (List Handed)) → told' ≡ told
-          → GoesOn told told' (work_of origin w outcomes (hand_at batch to_encode))
-          (work_of origin (after_drop reason w) outcomes None)
-      lacking_goes told told' same = record {
-        origin = refl;
-        more = [];
-        gains = gains_none told told' same;
-        attempts =
-            let b : OutBatch =
-            record { number = batch.number; spans = batch.spans; body = None; outcomes = [] } in
-            append-nil (before (after_drop reason w))
-            ∙ ap (flat_map (λ (x : EndedBatch). attempts_by x.number x.ending)) lacking_is
-            ∙ flat_map-append (λ (x : EndedBatch). attempts_by x.number x.ending) w.ended
-            (lacking_batch ∷ [])
-            ∙ sym (attempts_at origin w outcomes (hand_at batch to_encode) b k.tied.out)
-            ∙ sym (append-nil
-            (attempts_of (work_of origin w outcomes (hand_at batch to_encode)).account));
-        batches = lacking_batch ∷ [];
-        ended = lacking_is;
-        by_work = (lacking_by_work, tt);
-        left = refl;
-        stays = stays_here w k.here;
-      }
-
-  -- a body is handed to the exporter for the first time
-  module _ (batch : BatchView) (body : List ℕ) (o : Outcome)
-      (k : IsWorking origin w outcomes
-      (Some (record { batch = batch; stage = to_send body }))) where
-    abbrev sent_hand : Hand
-    sent_hand = record { batch = batch; stage = to_judge body o }
-
-    none_yet : outcomes ≡ []
-    none_yet = k.tied.stage.0
-
-    out_after : (after_handed body w).out
-        ≡ Some
-        (record { number = batch.number; spans = batch.spans; body = Some body; outcomes = [] })
-    out_after = ap (handed_with body) k.tied.out
-
-    -- A worker that handed a body for the first time has its outcome to judge.
-    pub sent_works : IsWorking origin (after_handed body w) outcomes (Some sent_hand)
-    sent_works = record {
-      here = k.here;
-      retry = k.retry;
-      by_work = k.by_work;
-      again = k.again;
-      tied = record {
-        out = out_after;
-        room = k.tied.room;
-        some = k.tied.some;
-        few = k.tied.few;
-        stage =
-            ((let n = ap length none_yet in let s = k.retry.some in omega arith), k.tied.stage.1);
-      };
-    }
-
-    -- The first export of a body adds one attempt, to the exporter's list and the account.
-    pub sent_goes : (told told' : Option (List Handed))
-        → Gains (handing batch.number 1 body o) told told'
-        → GoesOn told told'
-        (work_of origin w outcomes (Some (record { batch = batch; stage = to_send body })))
-        (work_of origin (after_handed body w) outcomes (Some sent_hand))
-    sent_goes told told' gains = record {
-      origin = refl;
-      more = handing batch.number 1 body o;
-      gains = gains;
-      attempts =
-          attempts_at origin (after_handed body w) outcomes (Some sent_hand)
-          (record { number = batch.number; spans = batch.spans; body = Some body; outcomes = [] })
-          out_after
-          ∙ ap (λ (os : List Outcome). before w ++ attempts_from batch.number 1 body (os ++ o ∷ []))
-          none_yet
-          ∙ ap (λ (l : List Handed). l ++ handing batch.number 1 body o)
-          (sym (attempts_at origin w outcomes
-          (Some (record { batch = batch; stage = to_send body }))
-          (record { number = batch.number; spans = batch.spans; body = None; outcomes = [] })
-          k.tied.out
-          ∙ append-nil (before w)));
-      batches = [];
-      ended = sym (append-nil w.ended);
-      by_work = tt;
-      left = refl;
-      stays = stays_here w k.here;
-    }
-
-  -- a body is handed to the exporter again
-  module _ (batch : BatchView) (body : List ℕ) (o : Outcome)
-      (k : IsWorking origin w outcomes
-      (Some (record { batch = batch; stage = to_retry body }))) where
-    -- A worker that handed a body again has its outcome to judge.
-    pub resent_works : IsWorking origin w outcomes
-        (Some (record { batch = batch; stage = to_judge body o }))
-    resent_works = record {
-      here = k.here;
-      retry = k.retry;
-      by_work = k.by_work;
-      again = k.again;
-      tied = record {
-        out = k.tied.out;
-        room = k.tied.room;
-        some = k.tied.some;
-        few = k.tied.few;
-        stage = (k.tied.stage.0, k.tied.stage.1);
-      };
-    }
-
-    -- A retry of a body adds one attempt, to the exporter's list and the account.
-    pub resent_goes : (told told' : Option (List Handed))
-        → Gains (handing batch.number (1 + length outcomes) body o) told told'
-        → GoesOn told told'
-        (work_of origin w outcomes (Some (record { batch = batch; stage = to_retry body })))
-        (work_of origin w outcomes (Some (record { batch = batch; stage = to_judge body o })))
-    resent_goes told told' gains = record {
-      origin = refl;
-      more = handing batch.number (1 + length outcomes) body o;
-      gains = gains;
-      attempts =
-          let b : OutBatch =
-          record { number = batch.number; spans = batch.spans; body = Some body; outcomes = [] } in
-          attempts_at origin w outcomes
-          (Some (record { batch = batch; stage = to_judge body o })) b k.tied.out
-          ∙ ap (λ (l : List Handed). before w ++ l) (attempts-more batch.number 1 body outcomes o)
-          ∙ sym (append_assoc (before w) (attempts_from batch.number 1 body outcomes)
-          (handing batch.number (1 + length outcomes) body o))
-          ∙ ap (λ (l : List Handed). l ++ handing batch.number (1 + length outcomes) body o)
-          (sym (attempts_at origin w outcomes
-          (Some (record { batch = batch; stage = to_retry body })) b k.tied.out
-          ∙ ap (λ (os : List Outcome). before w ++ attempts_from batch.number 1 body os)
-          (append-nil outcomes)));
-      batches = [];
-      ended = sym (append-nil w.ended);
-      by_work = tt;
-      left = refl;
-      stays = stays_here w k.here;
-    }
-
-  -- an outcome leads to another attempt
-  module _ (batch : BatchView) (body : List ℕ) (o : Outcome)
-      (k : IsWorking origin w outcomes (Some (record { batch = batch; stage = to_judge body o })))
-      (now word : ℕ) where
-    -- A worker that judged an outcome as retryable has the batch to send again.
-    pub again_works : (moment : ℕ)
-        → next_after origin.retry (1 + length outcomes) o now word ≡ again moment
-        → IsWorking origin w (outcomes ++ o ∷ [])
-        (Some (record { batch = batch; stage = to_retry body }))
-    again_works moment is = record {
-      here = k.here;
-      retry = k.retry;
-      by_work = k.by_work;
-      again =
-          leads-more origin.retry 1 outcomes o k.again
-          (λ now' word'.
-          same_lead origin.retry (1 + length outcomes) o now' word' now word ∙ ap fate_of is);
-      tied = record {
-        out = k.tied.out;
-        room = k.tied.room;
-        some = k.tied.some;
-        few = k.tied.few;
-        stage = (
-          (let l = length-append outcomes (o ∷ []) in
-              let b = again-few origin.retry (1 + length outcomes) o now word moment is in
-              omega arith),
-          k.tied.stage.1,
-          (let l = length-append outcomes (o ∷ []) in omega arith),
-        );
-      };
-    }
-
-    -- The verdict that a batch is to be sent again hands nothing over and ends no batch.
-    pub again_goes : (told : Option (List Handed))
-        → GoesOn told told
-        (work_of origin w outcomes (Some (record { batch = batch; stage = to_judge body o })))
-        (work_of origin w (outcomes ++ o ∷ [])
-        (Some (record { batch = batch; stage = to_retry body })))
-    again_goes told =
-        goes_quiet told told _ _ refl refl
-        (ap (λ (os : List Outcome). attempts_of (record w { out = with_outcomes os w.out }))
-        (append-nil (outcomes ++ o ∷ [])))
-        refl refl
-        (stays_here w k.here)
-
-    -- or it settles the batch
-    module _ (fate : Fate)
-        (ends : fate_of (next_after origin.retry (1 + length outcomes) o now word)
-        ≡ Some fate) where
-      abbrev ended_batch : EndedBatch
-      ended_batch = record {
-        number = batch.number;
-        spans = batch.spans;
-        ending = settled body (outcomes ++ o ∷ []) fate;
-      }
-
-      ended_is : (after_settle (outcomes ++ o ∷ []) fate w).ended ≡ w.ended ++ ended_batch ∷ []
-      ended_is =
-          ap (λ (x : Option OutBatch).
-          w.ended ++ ended_with (λ b. settled_with (outcomes ++ o ∷ []) fate b.body) x)
-          k.tied.out
-
-      batch_by_work : IsByWork origin ended_batch
-      batch_by_work = record {
-        some = k.tied.some;
-        few = k.tied.few;
-        ending = record {
-          sent = record {
-            means = k.tied.stage.1.means;
-            fits = k.tied.stage.1.fits;
-            earlier = outcomes;
-            last = o;
-            are = refl;
-            few = let l = length-append outcomes (o ∷ []) in let b = k.tied.stage.0 in omega arith;
-            again = k.again;
-          };
-          by_last = λ now' word'.
-              let l : length (outcomes ++ o ∷ []) ≡ 1 + length outcomes =
-              let e = length-append outcomes (o ∷ []) in omega arith in
-              ap (λ (n : ℕ). fate_of (next_after origin.retry n o now' word')) l
-              ∙ same_lead origin.retry (1 + length outcomes) o now' word' now word ∙ ends;
+-- The take of a batch is a step that leaves the exporter alone.
+pub take_step : (old new : WorkerState) (batch : BatchView) → IsWorkingWith old None
+    → batch.room ≡ old.origin.desk.batch → IsBatchSize old.origin batch.spans
+    → new ≡ record old { account = after_take batch.number batch.spans old.account }
+    → StepsAside old None new (hand_at batch None)
+take_step old new batch k room size is =
+    subst (λ (s : WorkerState). StepsAside old None s (hand_at batch None)) (sym is)
+    (λ told place prepared. record {
+      ready = record {
+        works = record {
+          here = k.here;
+          retry = k.retry;
+          by_work = k.by_work;
+          tied = record { out = refl; room = room; some = size.0; few = size.1; far = k.tied.1 };
         };
-      }
+        prepared = tt;
+      };
+      goes_on =
+          let new : WorkerState =
+          record old { account = after_take batch.number batch.spans old.account } in
+          goes_quiet told told (work_in old None) (work_in new (hand_at batch None))
+          refl refl
+          (append-nil (before old.account) ∙ sym (attempts_none old None k.tied.0)) refl refl
+          (stays_here old.account k.here);
+    })
 
-      -- A worker that settled its batch has no batch in hand and no outcomes.
-      pub settled_works : IsWorking origin (after_settle (outcomes ++ o ∷ []) fate w) [] None
-      settled_works = record {
+-- A step without a batch is still one where the account then notes that all is drained.
+pub drained_step : (old mid new : WorkerState) (b : Bool) → StepsAside old None mid None
+    → (b ≡ true → new ≡ record mid { account = after_drained mid.account })
+    → (b ≡ false → new ≡ mid) → StepsAside old None new None
+drained_step old mid new false s yes' no' =
+    subst (λ (x : WorkerState). StepsAside old None x None) (sym (no' refl)) s
+drained_step old mid new true s yes' no' =
+    subst (λ (x : WorkerState). StepsAside old None x None) (sym (yes' refl))
+    (λ told room prepared.
+    let t = s told room prepared in
+    let k = t.ready.works in
+    let after : WorkerState = record mid { account = after_drained mid.account } in
+    record {
+      ready = record {
+        works = record { here = k.here; retry = k.retry; by_work = k.by_work; tied = k.tied };
+        prepared = tt;
+      };
+      goes_on =
+          goes_on told told told (work_in old None) (work_in mid None) (work_in after None)
+          t.goes_on
+          (goes_quiet told told (work_in mid None) (work_in after None) refl refl refl refl refl
+          (stays_here mid.account k.here));
+    })
+
+-- A worker with no batch in hand has none out.
+pub no_hand_out : (state : WorkerState) (hand : Option Hand) → hand ≡ None
+    → IsWorkingWith state None → (work_in state hand).account.out ≡ None
+no_hand_out state hand is k =
+    subst (λ (h : Option Hand). (work_in state h).account.out ≡ None) (sym is)
+    (ap (with_outcomes state.outcomes) k.tied.0)
+
+-- ---- a batch is encoded
+
+module _ (told told' : Option (List Handed)) (room room' : ℕ → ℕ) (s : WorkerState)
+    (batch : BatchView) (r : IsReady room s (hand_at batch None)) (same : told' ≡ told) where
+  abbrev encoded : List ℕ → Sending
+  encoded body = record {
+    number = batch.number;
+    body = body;
+    retry = s.origin.retry;
+    stage = to_send;
+  }
+
+  -- The encoding of a batch is a step, where the exporter has room for all attempts.
+  pub encode_step : (sending : Sending) → sending ≡ encoded sending.body
+      → IsBodyOf batch.spans sending.body → length sending.body ≤ s.origin.max_body
+      → sendings.HasRoom room' sending
+      → TakesStep told told' room' s (hand_at batch None) s (hand_at batch (Some sending))
+  encode_step sending is means fits place =
+      let k = r.works in
+      let body = sending.body in
+      let has : sendings.HasRoom room' (encoded body) =
+      subst (sendings.HasRoom room') is place in
+      subst (λ (x : Sending).
+      TakesStep told told' room' s (hand_at batch None) s (hand_at batch (Some x)))
+      (sym is)
+      (record {
+        ready = record {
+          works = record {
+            here = k.here;
+            retry = k.retry;
+            by_work = k.by_work;
+            tied = record {
+              out = k.tied.out;
+              room = k.tied.room;
+              some = k.tied.some;
+              few = k.tied.few;
+              far = record {
+                number = refl;
+                retry = refl;
+                means = means;
+                fits = fits;
+                made = ap length k.tied.far;
+                counted = tt;
+                led = tt;
+              };
+            };
+          };
+          prepared =
+              subst (λ (o : Option OutBatch).
+              s.origin.retry.attempts
+              ≤ room' (length body) + length (outcomes_out (with_outcomes s.outcomes o)))
+              (sym k.tied.out)
+              (omega arith);
+        };
+        goes_on =
+            goes_quiet told told' (work_in s (hand_at batch None))
+            (work_in s (hand_at batch (Some (encoded body)))) same refl refl refl refl
+            (stays_here s.account k.here);
+      })
+
+  abbrev lacking_batch : Reason → EndedBatch
+  lacking_batch reason =
+      record { number = batch.number; spans = batch.spans; ending = dropped reason }
+
+  -- The drop of a batch without a body is a step.
+  pub lack_step : (new : WorkerState) (reason : Reason)
+      → LacksBody s.origin.max_body batch.spans reason
+      → new ≡ record s { account = after_drop reason s.account }
+      → TakesStep told told' room' s (hand_at batch None) new None
+  lack_step new reason lacks is =
+      let k = r.works in
+      let ended : (after_drop reason s.account).ended
+      ≡ s.account.ended ++ lacking_batch reason ∷ [] =
+      ap (λ (x : Option OutBatch). s.account.ended ++ ended_with (λ _. dropped reason) x)
+      k.tied.out in
+      let by_work : IsByWork s.origin (lacking_batch reason) =
+      record { some = k.tied.some; few = k.tied.few; ending = lacks } in
+      subst (λ (x : WorkerState). TakesStep told told' room' s (hand_at batch None) x None)
+      (sym is)
+      (record {
+        ready = record {
+          works = record {
+            here = k.here;
+            retry = k.retry;
+            by_work =
+                subst (AllByRecursion (IsByWork s.origin)) (sym ended)
+                (each_append (IsByWork s.origin) s.account.ended (lacking_batch reason ∷ [])
+                k.by_work
+                (by_work, tt));
+            tied = (refl, k.tied.far);
+          };
+          prepared = tt;
+        };
+        goes_on = record {
+          origin = refl;
+          more = [];
+          gains = gains_none told told' same;
+          attempts =
+              append-nil (before (after_drop reason s.account))
+              ∙ ap (flat_map (λ (x : EndedBatch). attempts_by x.number x.ending)) ended
+              ∙ flat_map-append (λ (x : EndedBatch). attempts_by x.number x.ending)
+              s.account.ended
+              (lacking_batch reason ∷ [])
+              ∙ sym (attempts_to s (hand_at batch None) (out_with batch None) k.tied.out)
+              ∙ sym (append-nil (attempts_of (work_in s (hand_at batch None)).account));
+          batches = lacking_batch reason ∷ [];
+          ended = ended;
+          by_work = (by_work, tt);
+          left = refl;
+          stays = stays_here s.account k.here;
+        };
+      })
+
+-- ---- a batch is on its way
+
+begun_before : (body : List ℕ) (stage : Stage) (w : WorkerAccount) → is_sent_at stage ≡ true
+    → begun_at body stage w ≡ w
+begun_before body to_send w is = cc
+begun_before body (to_judge attempt outcome) w is = refl
+begun_before body (to_retry attempts moment) w is = refl
+
+begun_ended : (body : List ℕ) (stage : Stage) (w : WorkerAccount)
+    → (begun_at body stage w).ended ≡ w.ended
+begun_ended body to_send w = refl
+begun_ended body (to_judge attempt outcome) w = refl
+begun_ended body (to_retry attempts moment) w = refl
+
+begun_left : (body : List ℕ) (stage : Stage) (w : WorkerAccount)
+    → (begun_at body stage w).left ≡ w.left
+begun_left body to_send w = refl
+begun_left body (to_judge attempt outcome) w = refl
+begun_left body (to_retry attempts moment) w = refl
+
+-- Another attempt may be made, and is one of those configured.
+next_few : (now : ℕ) (stage : Stage) (retry : RetryConfig) → MayBeSentAt now stage
+    → 1 ≤ retry.attempts → sendings.IsCountedAt retry stage → attempts_at stage < retry.attempts
+next_few now to_send retry may some counted = omega arith
+next_few now (to_judge attempt outcome) retry may some counted = absurd may
+next_few now (to_retry attempts moment) retry may some counted = counted.1
+
+-- Where another attempt may be made, each outcome led to it.
+led_on : (now : ℕ) (stage : Stage) (retry : RetryConfig) (outcomes : List Outcome)
+    → MayBeSentAt now stage → length outcomes ≡ attempts_at stage → LeadTo retry stage outcomes
+    → EachLeadsOn retry 1 outcomes
+led_on now to_send retry outcomes may made led =
+    subst (EachLeadsOn retry 1) (sym (nil_from_length _ made)) tt
+led_on now (to_judge attempt outcome) retry outcomes may made led = absurd may
+led_on now (to_retry attempts moment) retry outcomes may made led = led
+
+module _ (s : WorkerState) (batch : BatchView) (sending : Sending)
+    (k : IsWorkingWith s (hand_at batch (Some sending))) where
+  begun_out : (begun sending s).account.out ≡ Some (out_with batch (Some sending.body))
+  begun_out = by_stage sending.stage k.tied.out
+    where
+      by_stage : (stage : Stage)
+          → s.account.out ≡ Some (out_with batch (handed_at sending.body stage))
+          → (begun_at sending.body stage s.account).out
+          ≡ Some (out_with batch (Some sending.body))
+      by_stage to_send out = ap (handed_with sending.body) out
+      by_stage (to_judge attempt outcome) out = out
+      by_stage (to_retry attempts moment) out = out
+
+  -- The account has the attempts so far, the first one of which is not handed yet or was.
+  attempts_so_far : attempts_of (work_in s (hand_at batch (Some sending))).account
+      ≡ before s.account ++ attempts_from batch.number 1 sending.body s.outcomes
+  attempts_so_far =
+      attempts_to s (hand_at batch (Some sending))
+      (out_with batch (handed_at sending.body sending.stage)) k.tied.out
+      ∙ ap (λ (l : List Handed). before s.account ++ l)
+      (by_stage sending.stage k.tied.far.made)
+    where
+      by_stage : (stage : Stage) → length s.outcomes ≡ attempts_at stage
+          → attempts_with batch.number (handed_at sending.body stage) s.outcomes
+          ≡ attempts_from batch.number 1 sending.body s.outcomes
+      by_stage to_send made =
+          sym (ap (attempts_from batch.number 1 sending.body) (nil_from_length _ made))
+      by_stage (to_judge attempt outcome) made = refl
+      by_stage (to_retry attempts moment) made = refl
+
+  -- The exporter has room for the attempts that are left.
+  pub room_for : (room : ℕ → ℕ) → sendings.HasRoom room sending
+      → IsPrepared room (work_in s (hand_at batch (Some sending)))
+  room_for room has =
+      let same = ap (λ (c : RetryConfig). c.attempts) k.tied.far.retry in
+      let made = k.tied.far.made in
+      subst (λ (o : Option OutBatch).
+      s.origin.retry.attempts
+      ≤ room (length sending.body) + length (outcomes_out (with_outcomes s.outcomes o)))
+      (sym k.tied.out)
+      (omega arith)
+
+  -- The exporter that is prepared has room for the attempts of the batch.
+  pub has_room : (room : ℕ → ℕ) → IsPrepared room (work_in s (hand_at batch (Some sending)))
+      → sendings.HasRoom room sending
+  has_room room prepared =
+      let same = ap (λ (c : RetryConfig). c.attempts) k.tied.far.retry in
+      let made = k.tied.far.made in
+      let has : s.origin.retry.attempts ≤ room (length sending.body) + length s.outcomes =
+      subst (λ (o : Option OutBatch).
+      s.origin.retry.attempts
+      ≤ room (length sending.body) + length (outcomes_out (with_outcomes s.outcomes o)))
+      k.tied.out prepared in
+      omega arith
+
+  -- An attempt, whose outcome is to be judged, is a step.
+  pub sent_step : (told told' : Option (List Handed)) (room : ℕ → ℕ) (now attempt : ℕ)
+      (o : Outcome) (sending' : Sending) (new : WorkerState)
+      → MayBeSentAt now sending.stage → attempt ≡ attempts_at sending.stage + 1
+      → Gains (handing sending.number attempt sending.body o) told told'
+      → sending' ≡ record sending { stage = to_judge attempt o } → sendings.HasRoom room sending'
+      → new ≡ record (begun sending s) { outcomes = s.outcomes ++ o ∷ [] }
+      → TakesStep told told' room s (hand_at batch (Some sending)) new
+      (hand_at batch (Some sending'))
+  sent_step told told' room now attempt o sending' new may next gains is place now_is =
+      let far = k.tied.far in
+      let mid : WorkerState = record (begun sending s) { outcomes = s.outcomes ++ o ∷ [] } in
+      let next_sending : Sending = record sending { stage = to_judge attempt o } in
+      let few = next_few now sending.stage s.origin.retry may k.retry.some far.counted in
+      let long = length-append s.outcomes (o ∷ []) in
+      let made = far.made in
+      let same = ap (λ (c : RetryConfig). c.attempts) far.retry in
+      let has : sendings.HasRoom room next_sending = subst (sendings.HasRoom room) is place in
+      let count : attempt ≡ 1 + length s.outcomes = omega arith in
+      let given : Gains (handing batch.number (1 + length s.outcomes) sending.body o) told told' =
+      subst (λ (n : ℕ).
+      Gains (handing n (1 + length s.outcomes) sending.body o) told told')
+      far.number
+      (subst (λ (n : ℕ). Gains (handing sending.number n sending.body o) told told') count
+      gains) in
+      subst (λ (x : WorkerState).
+      TakesStep told told' room s (hand_at batch (Some sending)) x (hand_at batch (Some sending')))
+      (sym now_is)
+      (subst (λ (x : Sending).
+      TakesStep told told' room s (hand_at batch (Some sending)) mid (hand_at batch (Some x)))
+      (sym is)
+      (record {
+        ready = record {
+          works = record {
+            here = begun_left sending.body sending.stage s.account ∙ k.here;
+            retry = k.retry;
+            by_work =
+                subst (AllByRecursion (IsByWork s.origin))
+                (sym (begun_ended sending.body sending.stage s.account)) k.by_work;
+            tied = record {
+              out = begun_out;
+              room = k.tied.room;
+              some = k.tied.some;
+              few = k.tied.few;
+              far = record {
+                number = far.number;
+                retry = far.retry;
+                means = far.means;
+                fits = far.fits;
+                made = (let e : length (s.outcomes ++ o ∷ []) ≡ attempt = omega arith in e);
+                counted = (omega arith, omega arith);
+                led = (
+                  s.outcomes,
+                  refl,
+                  led_on now sending.stage s.origin.retry s.outcomes may made far.led,
+                );
+              };
+            };
+          };
+          prepared =
+              subst (λ (x : Option OutBatch).
+              s.origin.retry.attempts
+              ≤ room (length sending.body)
+              + length (outcomes_out (with_outcomes (s.outcomes ++ o ∷ []) x)))
+              (sym begun_out)
+              (omega arith);
+        };
+        goes_on = record {
+          origin = refl;
+          more = handing batch.number (1 + length s.outcomes) sending.body o;
+          gains = given;
+          attempts =
+              attempts_to mid (hand_at batch (Some next_sending))
+              (out_with batch (Some sending.body)) begun_out
+              ∙ ap (λ (es : List EndedBatch).
+              flat_map (λ (b : EndedBatch). attempts_by b.number b.ending) es
+              ++ attempts_from batch.number 1 sending.body (s.outcomes ++ o ∷ []))
+              (begun_ended sending.body sending.stage s.account)
+              ∙ ap (λ (l : List Handed). before s.account ++ l)
+              (attempts-more batch.number 1 sending.body s.outcomes o)
+              ∙ sym (append_assoc (before s.account)
+              (attempts_from batch.number 1 sending.body s.outcomes)
+              (handing batch.number (1 + length s.outcomes) sending.body o))
+              ∙ ap (λ (l : List Handed).
+              l ++ handing batch.number (1 + length s.outcomes) sending.body o)
+              (sym attempts_so_far);
+          batches = [];
+          ended =
+              begun_ended sending.body sending.stage s.account
+              ∙ sym (append-nil s.account.ended);
+          by_work = tt;
+          left = begun_left sending.body sending.stage s.account;
+          stays = stays_here s.account k.here;
+        };
+      }))
+
+  -- A turn in which nothing is sent goes on with the batch as it was, as the step after it does.
+  pub aside_of : (told told' : Option (List Handed)) (room : ℕ → ℕ) (sending' : Sending)
+      (mid new : WorkerState) (hand : Option Hand)
+      → is_sent_at sending.stage ≡ true → told' ≡ told → sending' ≡ sending
+      → sendings.HasRoom room sending' → mid ≡ begun sending s
+      → (IsWorkingWith mid (hand_at batch (Some sending'))
+      → StepsAside mid (hand_at batch (Some sending')) new hand)
+      → TakesStep told told' room s (hand_at batch (Some sending)) new hand
+  aside_of told told' room sending' mid new hand is same as_was place now_is step =
+      let state_was : mid ≡ s =
+      now_is
+      ∙ ap (λ (w : WorkerAccount). record s { account = w })
+      (begun_before sending.body sending.stage s.account is) in
+      let kept : IsWorkingWith mid (hand_at batch (Some sending')) =
+      subst (λ (x : WorkerState). IsWorkingWith x (hand_at batch (Some sending'))) (sym state_was)
+      (subst (λ (x : Sending). IsWorkingWith s (hand_at batch (Some x))) (sym as_was) k) in
+      let aside : StepsAside s (hand_at batch (Some sending)) new hand =
+      subst (λ (x : Sending). StepsAside s (hand_at batch (Some x)) new hand) as_was
+      (subst (λ (x : WorkerState). StepsAside x (hand_at batch (Some sending')) new hand)
+      state_was
+      (step kept)) in
+      subst (λ (t : Option (List Handed)).
+      TakesStep told t room s (hand_at batch (Some sending)) new hand)
+      (sym same)
+      (aside told room (room_for room (subst (sendings.HasRoom room) as_was place)))
+
+  -- The batch stays in hand as it was, and no outcome is to be judged.
+  pub kept_step : (sending' : Sending) → sending' ≡ sending
+      → StepsAside s (hand_at batch (Some sending)) s (hand_at batch (Some sending'))
+  kept_step sending' is =
+      subst (λ (x : Sending).
+      StepsAside s (hand_at batch (Some sending)) s (hand_at batch (Some x)))
+      (sym is)
+      (no_step s s (hand_at batch (Some sending)) k refl)
+
+-- ---- an outcome is judged
+
+module _ (s : WorkerState) (batch : BatchView) (sending : Sending) (attempt : ℕ) (o : Outcome)
+    (now word : ℕ) (was : sending.stage ≡ to_judge attempt o)
+    (given : IsWorkingWith s (hand_at batch (Some sending))) where
+  abbrev judged_sending : Sending
+  judged_sending = record sending { stage = to_judge attempt o }
+
+  same_sending : sending ≡ judged_sending
+  same_sending = ap (λ (x : Stage). record sending { stage = x }) was
+
+  works : IsWorkingWith s (hand_at batch (Some judged_sending))
+  works =
+      subst (λ (x : Sending). IsWorkingWith s (hand_at batch (Some x))) same_sending given
+
+  count : attempt ≡ 1 + length works.tied.far.led.0
+  count =
+      let made = works.tied.far.made in
+      let are = ap length works.tied.far.led.1 in
+      let long = length-append works.tied.far.led.0 (o ∷ []) in omega arith
+
+  -- The verdict that a batch is to be sent again is a step that leaves the exporter alone.
+  pub again_step : (sending' : Sending) (moment : ℕ)
+      → next_after sending.retry attempt o now word ≡ again moment
+      → sending' ≡ record sending { stage = to_retry attempt moment }
+      → StepsAside s (hand_at batch (Some sending)) s (hand_at batch (Some sending'))
+  again_step sending' moment decided is =
+      let k = works in
+      let far = k.tied.far in
+      let next : next_after s.origin.retry attempt o now word ≡ again moment =
+      sym (ap (λ (c : RetryConfig). next_after c attempt o now word) far.retry) ∙ decided in
+      let later : Sending = record sending { stage = to_retry attempt moment } in
+      let led : EachLeadsOn s.origin.retry 1 s.outcomes =
+      subst (EachLeadsOn s.origin.retry 1) (sym far.led.1)
+      (leads-more s.origin.retry 1 far.led.0 o far.led.2
+      (subst (λ (n : ℕ). LeadsTo s.origin.retry n o None) count
+      (λ now' word'.
+      same_lead s.origin.retry attempt o now' word' now word ∙ ap fate_of next))) in
+      let after : IsWorkingWith s (hand_at batch (Some later)) =
+      record {
         here = k.here;
         retry = k.retry;
-        by_work =
-            subst (AllByRecursion (IsByWork origin)) (sym ended_is)
-            (each_append (IsByWork origin) w.ended (ended_batch ∷ []) k.by_work
-            (batch_by_work, tt));
-        again = tt;
-        tied = (refl, refl);
-      }
+        by_work = k.by_work;
+        tied = record {
+          out = k.tied.out;
+          room = k.tied.room;
+          some = k.tied.some;
+          few = k.tied.few;
+          far = record {
+            number = far.number;
+            retry = far.retry;
+            means = far.means;
+            fits = far.fits;
+            made = far.made;
+            counted = (
+              far.counted.0,
+              again-few s.origin.retry attempt o now word moment next,
+            );
+            led = led;
+          };
+        };
+      } in
+      subst (λ (x : Sending).
+      StepsAside s (hand_at batch (Some x)) s (hand_at batch (Some sending')))
+      (sym same_sending)
+      (subst (λ (x : Sending).
+      StepsAside s (hand_at batch (Some judged_sending)) s (hand_at batch (Some x)))
+      (sym is)
+      (λ told room prepared. record {
+        ready = record {
+          works = after;
+          prepared =
+              room_for s batch later after room (has_room s batch judged_sending k room prepared);
+        };
+        goes_on =
+            goes_quiet told told (work_in s (hand_at batch (Some judged_sending)))
+            (work_in s (hand_at batch (Some later))) refl refl refl refl refl
+            (stays_here s.account k.here);
+      }))
 
-      -- The settling of a batch ends this batch by work, and hands nothing to the exporter.
-      pub settled_goes : (told : Option (List Handed))
-          → GoesOn told told
-          (work_of origin w outcomes (Some (record { batch = batch; stage = to_judge body o })))
-          (work_of origin (after_settle (outcomes ++ o ∷ []) fate w) [] None)
-      settled_goes told = record {
-        origin = refl;
-        more = [];
-        gains = gains_none told told refl;
-        attempts =
-            let b : OutBatch =
-            record {
-              number = batch.number;
-              spans = batch.spans;
-              body = Some body;
-              outcomes = [];
-            } in
-            append-nil (before (after_settle (outcomes ++ o ∷ []) fate w))
-            ∙ ap (flat_map (λ (x : EndedBatch). attempts_by x.number x.ending)) ended_is
-            ∙ flat_map-append (λ (x : EndedBatch). attempts_by x.number x.ending) w.ended
-            (ended_batch ∷ [])
-            ∙ ap (λ (l : List Handed). before w ++ l)
-            (append-nil (attempts_from batch.number 1 body (outcomes ++ o ∷ [])))
-            ∙ sym (attempts_at origin w outcomes
-            (Some (record { batch = batch; stage = to_judge body o })) b k.tied.out)
-            ∙ sym (append-nil (attempts_of (work_of origin w outcomes
-            (Some (record { batch = batch; stage = to_judge body o }))).account));
-        batches = ended_batch ∷ [];
-        ended = ended_is;
-        by_work = (batch_by_work, tt);
-        left = refl;
-        stays = stays_here w k.here;
-      }
+  module _ (fate : Fate)
+      (ends : fate_of (next_after sending.retry attempt o now word) ≡ Some fate) where
+    abbrev ended_batch : EndedBatch
+    ended_batch = record {
+      number = batch.number;
+      spans = batch.spans;
+      ending = settled sending.body s.outcomes fate;
+    }
+
+    ended_is : (after_settle s.outcomes fate s.account).ended ≡ s.account.ended ++ ended_batch ∷ []
+    ended_is =
+        ap (λ (x : Option OutBatch).
+        s.account.ended ++ ended_with (λ b. settled_with s.outcomes fate b.body) x)
+        works.tied.out
+
+    batch_by_work : IsByWork s.origin ended_batch
+    batch_by_work =
+        let far = works.tied.far in
+        record {
+          some = works.tied.some;
+          few = works.tied.few;
+          ending = record {
+            sent = record {
+              means = far.means;
+              fits = far.fits;
+              earlier = far.led.0;
+              last = o;
+              are = far.led.1;
+              few = (let made = far.made in let most = far.counted.1 in omega arith);
+              again = far.led.2;
+            };
+            by_last = λ now' word'.
+                ap (λ (n : ℕ). fate_of (next_after s.origin.retry n o now' word')) far.made
+                ∙ same_lead s.origin.retry attempt o now' word' now word
+                ∙ sym (ap (λ (c : RetryConfig). fate_of (next_after c attempt o now word))
+                far.retry)
+                ∙ ends;
+          };
+        }
+
+    -- The settling of a batch is a step that leaves the exporter alone.
+    pub settle_step : (new : WorkerState)
+        → new ≡ record s { account = after_settle s.outcomes fate s.account; outcomes = [] }
+        → StepsAside s (hand_at batch (Some sending)) new None
+    settle_step new is =
+        let k = works in
+        let after : WorkerState =
+        record s { account = after_settle s.outcomes fate s.account; outcomes = [] } in
+        subst (λ (x : Sending). StepsAside s (hand_at batch (Some x)) new None) (sym same_sending)
+        (subst (λ (x : WorkerState). StepsAside s (hand_at batch (Some judged_sending)) x None)
+        (sym is)
+        (λ told room prepared. record {
+          ready = record {
+            works = record {
+              here = k.here;
+              retry = k.retry;
+              by_work =
+                  subst (AllByRecursion (IsByWork s.origin)) (sym ended_is)
+                  (each_append (IsByWork s.origin) s.account.ended (ended_batch ∷ []) k.by_work
+                  (batch_by_work, tt));
+              tied = (refl, refl);
+            };
+            prepared = tt;
+          };
+          goes_on = record {
+            origin = refl;
+            more = [];
+            gains = gains_none told told refl;
+            attempts =
+                append-nil (before (after_settle s.outcomes fate s.account))
+                ∙ ap (flat_map (λ (x : EndedBatch). attempts_by x.number x.ending)) ended_is
+                ∙ flat_map-append (λ (x : EndedBatch). attempts_by x.number x.ending)
+                s.account.ended
+                (ended_batch ∷ [])
+                ∙ ap (λ (l : List Handed). before s.account ++ l)
+                (append-nil (attempts_from batch.number 1 sending.body s.outcomes))
+                ∙ sym (attempts_to s (hand_at batch (Some judged_sending))
+                (out_with batch (Some sending.body)) k.tied.out)
+                ∙ sym (append-nil
+                (attempts_of (work_in s (hand_at batch (Some judged_sending))).account));
+            batches = ended_batch ∷ [];
+            ended = ended_is;
+            by_work = (batch_by_work, tt);
+            left = refl;
+            stays = stays_here s.account k.here;
+          };
+        }))
 
 -- ---- the batch that is out
 
@@ -545,15 +764,16 @@ last_of o [] = ([], o, refl)
 last_of o (p ∷ outcomes) =
     let rest = last_of p outcomes in (o ∷ rest.0, rest.1, ap (λ (l : List Outcome). o ∷ l) rest.2)
 
+-- What was sent of a batch, after some outcomes that each led to another attempt.
 sent_all : (origin : Origin) (spans : List SpanData) (body : List ℕ) (outcomes : List Outcome)
-    → MayBeSent origin.max_body spans body → 1 ≤ length outcomes
+    → IsBodyOf spans body → length body ≤ origin.max_body → 1 ≤ length outcomes
     → length outcomes ≤ origin.retry.attempts → EachLeadsOn origin.retry 1 outcomes
     → IsSent origin spans body outcomes
-sent_all origin spans body [] sendable some few leads = absurd (omega arith)
-sent_all origin spans body (o ∷ outcomes) sendable some few leads =
+sent_all origin spans body [] means fits some few leads = absurd (omega arith)
+sent_all origin spans body (o ∷ outcomes) means fits some few leads =
     let parts = last_of o outcomes in record {
-      means = sendable.means;
-      fits = sendable.fits;
+      means = means;
+      fits = fits;
       earlier = parts.0;
       last = parts.1;
       are = parts.2;
@@ -563,42 +783,45 @@ sent_all origin spans body (o ∷ outcomes) sendable some few leads =
           (subst (EachLeadsOn origin.retry 1) parts.2 leads);
     }
 
-out_at : (origin : Origin) (w : WorkerAccount) (outcomes : List Outcome) (hand : Hand)
-    → IsWorking origin w outcomes (Some hand)
-    → IsSentSoFar origin hand.batch.spans (handed_at hand.stage) (outcomes ++ pending_at hand.stage)
-out_at origin w outcomes hand k = by_stage hand.stage k.tied.stage
+out_at : (s : WorkerState) (batch : BatchView) (sending : Option Sending)
+    → IsAsFar s.origin batch s.outcomes sending
+    → IsSentSoFar s.origin batch.spans (handed_in sending) s.outcomes
+out_at s batch None far = far
+out_at s batch (Some sending) far =
+    by_stage sending.stage far.made far.counted far.led
   where
-    by_stage : (stage : HandStage) → IsStage origin hand.batch.spans outcomes stage
-        → IsSentSoFar origin hand.batch.spans (handed_at stage) (outcomes ++ pending_at stage)
-    by_stage to_encode s = append-nil outcomes ∙ s
-    by_stage (to_send body) s = append-nil outcomes ∙ s.0
-    by_stage (to_judge body o) s = record {
-      means = s.1.means;
-      fits = s.1.fits;
-      earlier = outcomes;
+    by_stage : (stage : Stage) → length s.outcomes ≡ attempts_at stage
+        → sendings.IsCountedAt s.origin.retry stage → LeadTo s.origin.retry stage s.outcomes
+        → IsSentSoFar s.origin batch.spans (handed_at sending.body stage) s.outcomes
+    by_stage to_send made counted led = nil_from_length _ made
+    by_stage (to_judge attempt o) made counted led = record {
+      means = far.means;
+      fits = far.fits;
+      earlier = led.0;
       last = o;
-      are = refl;
-      few = let l = length-append outcomes (o ∷ []) in let b = s.0 in omega arith;
-      again = k.again;
+      are = led.1;
+      few = (let most = counted.1 in omega arith);
+      again = led.2;
     }
-    by_stage (to_retry body) s =
-        subst (IsSent origin hand.batch.spans body) (sym (append-nil outcomes))
-        (sent_all origin hand.batch.spans body outcomes s.1 s.2
-        (let b = s.0 in omega arith) k.again)
+    by_stage (to_retry attempts moment) made counted led =
+        sent_all s.origin batch.spans sending.body s.outcomes far.means far.fits
+        (let least = counted.0 in omega arith)
+        (let most = counted.1 in omega arith) led
 
 -- The batch that is out, if there is one, has come as far as it is by work.
-pub out_by_work : (origin : Origin) (w : WorkerAccount) (outcomes : List Outcome)
-    (hand : Option Hand)
-    → IsWorking origin w outcomes hand
-    → IfSome (work_of origin w outcomes hand).account.out (IsOutByWork origin)
-out_by_work origin w outcomes None k =
-    subst (λ (o : Option OutBatch). IfSome (with_outcomes (outcomes ++ []) o) (IsOutByWork origin))
+pub out_by_work : (s : WorkerState) (hand : Option Hand) → IsWorkingWith s hand
+    → IfSome (work_in s hand).account.out (IsOutByWork s.origin)
+out_by_work s None k =
+    subst (λ (o : Option OutBatch). IfSome (with_outcomes s.outcomes o) (IsOutByWork s.origin))
     (sym k.tied.0) tt
-out_by_work origin w outcomes (Some hand) k =
-    subst (λ (o : Option OutBatch).
-    IfSome (with_outcomes (outcomes ++ pending_at hand.stage) o) (IsOutByWork origin))
+out_by_work s (Some hand) k =
+    subst (λ (o : Option OutBatch). IfSome (with_outcomes s.outcomes o) (IsOutByWork s.origin))
     (sym k.tied.out)
-    (record { some = k.tied.some; few = k.tied.few; sent = out_at origin w outcomes hand k })
+    (record {
+      some = k.tied.some;
+      few = k.tied.few;
+      sent = out_at s hand.batch hand.sending k.tied.far;
+    })
 
 -- ---- whether it has left
 
@@ -626,7 +849,7 @@ pass_end true state hand k =
       last = e.last;
       ended =
           ap (λ (o : Option OutBatch). state.account.ended
-          ++ abandon_out (with_outcomes (state.outcomes ++ in_hand [] pending_at hand) o))
+          ++ abandon_out (with_outcomes state.outcomes o))
           e.none_out
           ∙ append-nil state.account.ended ∙ e.ended;
       by_work = e.by_work;
@@ -638,7 +861,7 @@ pass_end false state hand k = record {
   last = (work_in state hand).account.out;
   ended = refl;
   by_work = (k.works refl).by_work;
-  out = out_by_work state.origin state.account state.outcomes hand (k.works refl);
+  out = out_by_work state hand (k.works refl);
   none_out = refl;
 }
 
@@ -648,8 +871,7 @@ pub pass_until_left : (left : Bool) (state : WorkerState) (hand : Option Hand)
 pass_until_left true state hand k = record {
   by_work = λ here. absurd (let e : true ≡ false = sym k.left_is ∙ here in cc);
   none_out =
-      λ gone. ap (with_outcomes (state.outcomes ++ in_hand [] pending_at hand))
-      (k.has_left refl).batches.none_out;
+      λ gone. ap (with_outcomes state.outcomes) (k.has_left refl).batches.none_out;
 }
 pass_until_left false state hand k = record {
   by_work = λ here. (k.works refl).by_work;
@@ -672,13 +894,13 @@ leaves_with state hand k =
     None refl
     (record {
       none = refl;
-      judged = refl;
+      outcomes = refl;
       batches = record {
         earlier = state.account.ended;
         last = (work_in state (Some hand)).account.out;
         ended = refl;
         by_work = k.by_work;
-        out = out_by_work state.origin state.account state.outcomes (Some hand) k;
+        out = out_by_work state (Some hand) k;
         none_out = refl;
       };
     })
@@ -712,86 +934,19 @@ module _ (origin : Origin) (a : AnyAccount) (os : List Outcome) (old : WorkerSta
   pub same_state : (a' : AnyAccount) → a' ≡ a → state_of origin (worker_in a') os ≡ old
   same_state a' same = ap (λ (h : AnyAccount). state_of origin (worker_in h) os) same ∙ view
 
--- ---- the room that the exporter has
-
-module _ (state : WorkerState) (batch : BatchView) (stage : HandStage) (room : ℕ → ℕ)
-    (k : IsWorkingWith state (hand_at batch stage)) where
-  abbrev RoomWith : Option OutBatch → Type 0
-  RoomWith out =
-      HasRoom state.origin.retry room (encoded_at stage)
-      (outcomes_out (with_outcomes (state.outcomes ++ pending_at stage) out))
-
-  room_of : IsPrepared room (work_in state (hand_at batch stage))
-      → HasRoom state.origin.retry room (encoded_at stage) (state.outcomes ++ pending_at stage)
-  room_of = subst RoomWith k.tied.out
-
-  room_by : HasRoom state.origin.retry room (encoded_at stage) (state.outcomes ++ pending_at stage)
-      → IsPrepared room (work_in state (hand_at batch stage))
-  room_by = subst RoomWith (sym k.tied.out)
-
--- ---- steps
-
--- Work that changes nothing goes on as the contract says.
-pub no_turn : (told : Option (List Handed)) (work : Work) → GoesOn told told work work
-no_turn told work = goes_quiet told told work work refl refl refl refl refl (λ _. refl)
-
--- A worker whose state is unchanged has taken a step that leaves the exporter alone.
-pub no_step : (old new : WorkerState) (hand : Option Hand) → IsWorkingWith old hand → new ≡ old
-    → StepsAside old hand new hand
-no_step old new hand k is = subst (λ (s : WorkerState). StepsAside old hand s hand) (sym is)
-    (λ told room prepared. record {
-      ready = record { works = k; prepared = prepared };
-      goes_on = no_turn told (work_in old hand);
-    })
-
--- The take of a batch is a step that leaves the exporter alone.
-pub take_step : (old new : WorkerState) (batch : BatchView) → IsWorkingWith old None
-    → batch.room ≡ old.origin.desk.batch → IsBatchSize old.origin batch.spans
-    → new ≡ record old { account = after_take batch.number batch.spans old.account }
-    → StepsAside old None new (hand_at batch to_encode)
-take_step old new batch k room size is =
-    subst (λ (s : WorkerState). StepsAside old None s (hand_at batch to_encode)) (sym is)
-    (λ told place prepared. record {
-      ready = record {
-        works = taken_works old.origin old.account old.outcomes k batch room size;
-        prepared = tt;
-      };
-      goes_on = taken_goes old.origin old.account old.outcomes k batch room size told;
-    })
-
--- A step without a batch is still one where the account then notes that all is drained.
-pub drained_step : (old mid new : WorkerState) (b : Bool) → StepsAside old None mid None
-    → (b ≡ true → new ≡ record mid { account = after_drained mid.account })
-    → (b ≡ false → new ≡ mid) → StepsAside old None new None
-drained_step old mid new false s yes' no' =
-    subst (λ (x : WorkerState). StepsAside old None x None) (sym (no' refl)) s
-drained_step old mid new true s yes' no' =
-    subst (λ (x : WorkerState). StepsAside old None x None) (sym (yes' refl))
-    (λ told room prepared.
-    let t = s told room prepared in let k = t.ready.works in record {
-      ready = record { works = drained_works mid.origin mid.account mid.outcomes k; prepared = tt };
-      goes_on =
-          goes_on told told told (work_in old None) (work_in mid None)
-          (work_in (record mid { account = after_drained mid.account }) None) t.goes_on
-          (drained_goes mid.origin mid.account mid.outcomes k told);
-    })
-
--- A worker with no batch in hand has none out.
-pub no_hand_out : (state : WorkerState) (hand : Option Hand) → hand ≡ None
-    → IsWorkingWith state None → (work_in state hand).account.out ≡ None
-no_hand_out state hand is k =
-    subst (λ (h : Option Hand). (work_in state h).account.out ≡ None) (sym is)
-    (ap (with_outcomes (state.outcomes ++ [])) k.tied.0)
+-- ---- turns
 
 -- A take that the worker's account records is a step that leaves the exporter alone.
 pub take_told : (origin : Origin) (a a' : AnyAccount) (os : List Outcome) (old : WorkerState)
     (batch : BatchView)
     → IsWorkingWith old None → a ≡ worker origin (worker_in a)
     → state_of origin (worker_in a) os ≡ old
-    → a' ≡ on_worker (after_take batch.number batch.spans) a → IsBatchOf a' batch
-    → IsBatchSize (origin_in a) batch.spans
-    → StepsAside old None (state_of origin (worker_in a') os) (hand_at batch to_encode)
-take_told origin a a' os old batch k is view told of size =
+    → TakesBatch a (Some batch) a'
+    → StepsAside old None (state_of origin (worker_in a') os) (hand_at batch None)
+take_told origin a a' os old batch k is view taken =
+    let told = taken.some in
+    let of = taken.batch in
+    let size = taken.size in
     let f = after_take batch.number batch.spans in
     let at : origin_in a ≡ old.origin = ap origin_in is ∙ ap (λ (s : WorkerState). s.origin) view in
     let at' : origin_in a' ≡ old.origin =
@@ -800,164 +955,6 @@ take_told origin a a' os old batch k is view told of size =
     (of.room ∙ ap (λ (o : Origin). o.desk.batch) at')
     (subst (λ (o : Origin). IsBatchSize o batch.spans) at size)
     (told_state origin a os old is view a' f told)
-
-module _ (told told' : Option (List Handed)) (room room' : ℕ → ℕ) (state : WorkerState)
-    (batch : BatchView) where
-  module _ (r : IsReady room state (hand_at batch to_encode)) (same : told' ≡ told) where
-    -- The encoding of a batch is a step, where the exporter has room for all attempts.
-    pub encode_step : (body : List ℕ) → MayBeSent state.origin.max_body batch.spans body
-        → state.origin.retry.attempts ≤ room' (length body)
-        → TakesStep told told' room' state (hand_at batch to_encode) state
-        (hand_at batch (to_send body))
-    encode_step body means place =
-        let k = encoded_works state.origin state.account state.outcomes batch r.works body means in
-        record {
-          ready = record {
-            works = k;
-            prepared = room_by state batch (to_send body) room' k (omega arith);
-          };
-          goes_on =
-              goes_quiet told told' (work_in state (hand_at batch to_encode))
-              (work_in state (hand_at batch (to_send body))) same refl refl refl refl
-              (stays_here state.account k.here);
-        }
-
-    -- The drop of a batch without a body is a step.
-    pub lack_step : (new : WorkerState) (reason : Reason)
-        → LacksBody state.origin.max_body batch.spans reason
-        → new ≡ record state { account = after_drop reason state.account }
-        → TakesStep told told' room' state (hand_at batch to_encode) new None
-    lack_step new reason lacks is =
-        subst
-        (λ (s : WorkerState). TakesStep told told' room' state (hand_at batch to_encode) s None)
-        (sym is)
-        (record {
-          ready = record {
-            works =
-                lacking_works state.origin state.account state.outcomes batch r.works reason lacks;
-            prepared = tt;
-          };
-          goes_on =
-              lacking_goes state.origin state.account state.outcomes batch r.works reason lacks told
-              told' same;
-        })
-
-  module _ (body : List ℕ) (hand : Hand) (less : (len : ℕ) → room len ≤ room' len + 1) where
-    -- The first export of a batch is a step, where it uses at most one place of the room.
-    pub send_step : (new : WorkerState) → IsReady room state (hand_at batch (to_send body))
-        → IsExported told told' batch body 1 hand
-        → new ≡ record state { account = after_handed body state.account }
-        → TakesStep told told' room' state (hand_at batch (to_send body)) new (Some hand)
-    send_step new r sent is =
-        let mid : WorkerState = record state { account = after_handed body state.account } in
-        let k =
-        sent_works state.origin state.account state.outcomes batch body sent.outcome r.works in
-        let p = room_of state batch (to_send body) room r.works r.prepared in
-        let l = length-append state.outcomes [] in
-        let m = length-append state.outcomes (sent.outcome ∷ []) in let f = less (length body) in
-        subst (λ (s : WorkerState).
-        TakesStep told told' room' state (hand_at batch (to_send body)) s (Some hand))
-        (sym is)
-        (subst
-        (λ (h : Hand). TakesStep told told' room' state (hand_at batch (to_send body)) mid (Some h))
-        (sym sent.hand_is)
-        (record {
-          ready = record {
-            works = k;
-            prepared = room_by mid batch (to_judge body sent.outcome) room' k (omega arith);
-          };
-          goes_on =
-              sent_goes state.origin state.account state.outcomes batch body sent.outcome r.works
-              told told' sent.gains;
-        }))
-
-    -- A retry of a batch is a step, where it uses at most one place of the room.
-    pub resend_step : (attempt : ℕ) → IsReady room state (hand_at batch (to_retry body))
-        → IsExported told told' batch body attempt hand → attempt ≡ 1 + length state.outcomes
-        → TakesStep told told' room' state (hand_at batch (to_retry body)) state (Some hand)
-    resend_step attempt r sent count =
-        let k =
-        resent_works state.origin state.account state.outcomes batch body sent.outcome r.works in
-        let p = room_of state batch (to_retry body) room r.works r.prepared in
-        let l = length-append state.outcomes [] in
-        let m = length-append state.outcomes (sent.outcome ∷ []) in let f = less (length body) in
-        subst (λ (h : Hand).
-        TakesStep told told' room' state (hand_at batch (to_retry body)) state (Some h))
-        (sym sent.hand_is)
-        (record {
-          ready = record {
-            works = k;
-            prepared = room_by state batch (to_judge body sent.outcome) room' k (omega arith);
-          };
-          goes_on =
-              resent_goes state.origin state.account state.outcomes batch body sent.outcome r.works
-              told told'
-              (subst (λ (n : ℕ). Gains (handing batch.number n body sent.outcome) told told') count
-              sent.gains);
-        })
-
-module _ (state : WorkerState) (batch : BatchView) (body : List ℕ) (o : Outcome) (now word : ℕ)
-    (k : IsWorkingWith state (hand_at batch (to_judge body o))) where
-  -- The verdict that a batch is to be sent again is a step that leaves the exporter alone.
-  pub again_step : (new : WorkerState) (moment : ℕ)
-      → next_after state.origin.retry (1 + length state.outcomes) o now word ≡ again moment
-      → new ≡ record state { outcomes = state.outcomes ++ o ∷ [] }
-      → StepsAside state (hand_at batch (to_judge body o)) new (hand_at batch (to_retry body))
-  again_step new moment next is =
-      let mid : WorkerState = record state { outcomes = state.outcomes ++ o ∷ [] } in
-      let k' =
-      again_works state.origin state.account state.outcomes batch body o k now word moment next in
-      subst (λ (s : WorkerState).
-      StepsAside state (hand_at batch (to_judge body o)) s (hand_at batch (to_retry body)))
-      (sym is)
-      (λ told place prepared.
-      let p = room_of state batch (to_judge body o) place k prepared in
-      let l = length-append (state.outcomes ++ o ∷ []) [] in
-      record {
-        ready = record {
-          works = k';
-          prepared = room_by mid batch (to_retry body) place k' (omega arith);
-        };
-        goes_on = again_goes state.origin state.account state.outcomes batch body o k now word told;
-      })
-
-  -- The settling of a batch is a step that leaves the exporter alone.
-  pub settle_step : (new : WorkerState) (fate : Fate)
-      → fate_of (next_after state.origin.retry (1 + length state.outcomes) o now word) ≡ Some fate
-      → new
-      ≡ record state {
-        account = after_settle (state.outcomes ++ o ∷ []) fate state.account;
-        outcomes = [];
-      }
-      → StepsAside state (hand_at batch (to_judge body o)) new None
-  settle_step new fate ends is =
-      subst (λ (s : WorkerState). StepsAside state (hand_at batch (to_judge body o)) s None)
-      (sym is)
-      (λ told place prepared. record {
-        ready = record {
-          works =
-              settled_works state.origin state.account state.outcomes batch body o k now word fate
-              ends;
-          prepared = tt;
-        };
-        goes_on =
-            settled_goes state.origin state.account state.outcomes batch body o k now word fate ends
-            told;
-      })
-
--- A batch in hand that was handed is the one that the worker's account has out.
-pub handed_out : (state : WorkerState) (batch : BatchView) (stage : HandStage) (body : List ℕ)
-    → IsWorkingWith state (hand_at batch stage) → handed_at stage ≡ Some body
-    → IsSentBatchOf (worker state.origin state.account) batch
-handed_out state batch stage body k handed = record {
-  body = body;
-  out =
-      k.tied.out
-      ∙ ap (λ (b : Option (List ℕ)).
-      Some (record { number = batch.number; spans = batch.spans; body = b; outcomes = [] }))
-      handed;
-  room = k.tied.room;
-}
 
 -- A turn that takes a step goes on as the contract says.
 pub turn_goes : (told told' : Option (List Handed)) (room : ℕ → ℕ) (old new : WorkerState)
@@ -1000,23 +997,40 @@ abbrev EachOutLeadsOn : WorkerState → Option OutBatch → Type 0
 EachOutLeadsOn state out =
     IfSome out (λ (b : OutBatch). EachLeadsOn state.origin.retry 1 b.outcomes)
 
-judged_by : (state : WorkerState) (outcomes : List Outcome) (out : Option OutBatch)
-    → EachLeadsOn state.origin.retry 1 outcomes → EachOutLeadsOn state (with_outcomes outcomes out)
-judged_by state outcomes None each = tt
-judged_by state outcomes (Some b) each = each
+judged_by : (state : WorkerState) (out : Option OutBatch)
+    → EachLeadsOn state.origin.retry 1 state.outcomes
+    → EachOutLeadsOn state (with_outcomes state.outcomes out)
+judged_by state None each = tt
+judged_by state (Some b) each = each
+
+judged_at : (state : WorkerState) (hand : Option Hand) → IsWorkingWith state hand
+    → in_hand false is_pending_in hand ≡ false → EachLeadsOn state.origin.retry 1 state.outcomes
+judged_at state None k none =
+    subst (EachLeadsOn state.origin.retry 1) (sym k.tied.1) tt
+judged_at state (Some hand) k none = by_sending hand.sending k.tied.far none
+  where
+    by_stage : (stage : Stage) → length state.outcomes ≡ attempts_at stage
+        → LeadTo state.origin.retry stage state.outcomes → is_pending_at stage ≡ false
+        → EachLeadsOn state.origin.retry 1 state.outcomes
+    by_stage to_send made led is =
+        subst (EachLeadsOn state.origin.retry 1) (sym (nil_from_length _ made)) tt
+    by_stage (to_judge attempt outcome) made led is = cc
+    by_stage (to_retry attempts moment) made led is = led
+
+    by_sending : (sending : Option Sending)
+        → IsAsFar state.origin hand.batch state.outcomes sending
+        → is_pending_in sending ≡ false → EachLeadsOn state.origin.retry 1 state.outcomes
+    by_sending None far is = subst (EachLeadsOn state.origin.retry 1) (sym far) tt
+    by_sending (Some sending) far is = by_stage sending.stage far.made far.led is
 
 -- Each outcome of the batch that is out led to another attempt, where none is to be judged.
 pub pass_judged : (left : Bool) (state : WorkerState) (hand : Option Hand)
-    → IsPassWith left state hand → in_hand [] pending_at hand ≡ []
+    → IsPassWith left state hand → in_hand false is_pending_in hand ≡ false
     → EachOutLeadsOn state (work_in state hand).account.out
 pass_judged false state hand p none =
-    judged_by state (state.outcomes ++ in_hand [] pending_at hand) state.account.out
-    (subst (EachLeadsOn state.origin.retry 1)
-    (sym (ap (λ (os : List Outcome). state.outcomes ++ os) none ∙ append-nil state.outcomes))
-    (p.works refl).again)
+    judged_by state state.account.out (judged_at state hand (p.works refl) none)
 pass_judged true state hand p none =
-    subst (λ (o : Option OutBatch).
-    EachOutLeadsOn state (with_outcomes (state.outcomes ++ in_hand [] pending_at hand) o))
+    subst (λ (o : Option OutBatch). EachOutLeadsOn state (with_outcomes state.outcomes o))
     (sym (p.has_left refl).batches.none_out) tt
 
 -- ---- a pass with a batch in hand hasn't left

@@ -1,12 +1,15 @@
 -- What the lock of a batch processor guards, what holds of it ask for, whom they wake, and what
 -- they do to an account. (Trace SDK, ForceFlush, Shutdown; profile)
 use Rattle.std.specs.Prelude.{◌≡◌, ℕ, ◌≤◌, ◌==◌, ◌&&◌, ◌||◌, not, Bool, true, false, List, []}
-use Rattle.std.specs.Prelude.{Contains, length, map, Some, None, is_some, Result, OnOk}
-use Rattle.std.specs.Prelude.{OnErr}
+use Rattle.std.specs.Prelude.{Contains, length, map, Option, Some, None, IfSome, IfNone, is_some}
+use Rattle.std.specs.Prelude.{Result, OnOk, OnErr}
 use Rattle.model_span.specs.Spans.{SpanData}
+use Rattle.model_span.specs.Dropped as dropped
 use Rattle.model_span.specs.Dropped.{entry_of}
 use Rattle.model_desk.specs.Desks.{Desk, accepted_count, is_due, is_flushed}
 use Rattle.model_desk.specs.Queue.{lost_names}
+use Rattle.otlp_span.specs.Dropped.{entry_view}
+use Rattle.otlp_span.specs.declared.slip.Entry.{Entry}
 use Rattle.drop_ledger.specs.Counts.{drop_counts_view}
 use Rattle.batch_desk.specs.Batch.{BatchView, NamedView, SettledView}
 use Rattle.batch_desk.specs.Views.{fate_counts_view}
@@ -14,10 +17,11 @@ use Rattle.batch_desk.specs.declared.totals.Totals.{Totals}
 use Rattle.model_processor.specs.Passes.{PassAccount}
 use Rattle.model_processor.specs.WorkerClauses.{Origin}
 use Rattle.model_processor.specs.AnyAccounts.{AnyAccount, account_in, after_flush, after_shutdown}
-use Rattle.model_processor.specs.AnyAccounts.{on_pass, origin_in, pass, worker_in}
+use Rattle.model_processor.specs.AnyAccounts.{after_take, on_pass, on_worker, origin_in, pass}
+use Rattle.model_processor.specs.AnyAccounts.{worker_in}
 use Rattle.model_processor.specs.Kept.{Kept}
 use Rattle.batch_processor.specs.declared.fault.WorkerLeft.{WorkerLeft}
-use Rattle.batch_processor.specs.declared.hold.Wake.{Wake}
+use Rattle.batch_processor.specs.declared.lock.hold.Wake.{Wake}
 use Rattle.batch_processor.specs.declared.pass.Flushed.{Flushed}
 
 -- ---- what the lock guards
@@ -76,18 +80,27 @@ wake_of old new = record {
 
 -- ---- what a pass asks for, and its answer
 
+-- what a pass knows once it asked, by a flush or by a shutdown, and what the queue is then
+abbrev pub after_ask : Bool → ℕ → ℕ → PassAccount → PassAccount
+after_ask false next mark account = after_flush next mark account
+after_ask true next mark account = after_shutdown next mark account
+
+abbrev pub after_asked : Bool → Desk → Desk
+after_asked false desk = record desk { asked = accepted_count desk }
+after_asked true desk = record desk { asked = accepted_count desk; closed = true }
+
 -- A pass asked for all that was accepted so far: the mark is the number of these, and the account
 -- says which ticket was the next one.
-pub record Asks (guarded : Guarded) (mark : ℕ) (old new : AnyAccount) : Type 0 where
+pub record Asks (closes : Bool) (guarded : Guarded) (mark : ℕ) (old new : AnyAccount)
+    : Type 0 where
   pub hold : InHold guarded (account_in old)
   pub mark_is : mark ≡ accepted_count guarded.desk
-  pub account : new ≡ on_pass (after_flush guarded.desk.next_ticket mark) old
+  pub account : new ≡ on_pass (after_ask closes guarded.desk.next_ticket mark) old
 
--- The same by a shutdown.
-pub record Shuts (guarded : Guarded) (mark : ℕ) (old new : AnyAccount) : Type 0 where
-  pub hold : InHold guarded (account_in old)
-  pub mark_is : mark ≡ accepted_count guarded.desk
-  pub account : new ≡ on_pass (after_shutdown guarded.desk.next_ticket mark) old
+-- A pass asked so in some hold of the lock.
+pub record WasAsked (closes : Bool) (mark : ℕ) (old new : AnyAccount) : Type 0 where
+  pub guarded : Guarded
+  pub asks : Asks closes guarded mark old new
 
 -- The answer to a flush in a hold: that all up to its mark was settled or dropped, or else that the
 -- worker has left.
@@ -101,6 +114,12 @@ pub record WasTold (mark : ℕ) (answer : Result Flushed WorkerLeft) (account : 
     : Type 0 where
   pub guarded : Guarded
   pub told : IsTold guarded mark answer account
+
+-- A pass popped an entry, or there was none.
+pub record PopsBy (after : dropped.Entry → PassAccount → PassAccount) (old : AnyAccount)
+    (popped : Option Entry) (new : AnyAccount) : Type 0 where
+  pub some : IfSome popped (λ entry. new ≡ on_pass (after (entry_view entry)) old)
+  pub none : IfNone popped (new ≡ old)
 
 -- ---- batches
 
@@ -142,3 +161,11 @@ pub record IsSettledBatchOf (holder : AnyAccount) (batch : SettledView) : Type 0
 -- A batch has at least one span, and at most as many spans as are configured.
 abbrev pub IsBatchSize : Origin → List SpanData → Type 0
 IsBatchSize origin spans = (1 ≤ length spans) × (length spans ≤ origin.desk.batch)
+
+-- The worker took the next batch, or none was due.
+pub record TakesBatch (old : AnyAccount) (taken : Option BatchView) (new : AnyAccount) : Type 0
+  where
+    pub some : IfSome taken (λ batch. new ≡ on_worker (after_take batch.number batch.spans) old)
+    pub batch : IfSome taken (λ batch. IsBatchOf new batch)
+    pub size : IfSome taken (λ batch. IsBatchSize (origin_in old) batch.spans)
+    pub none : IfNone taken (new ≡ old)

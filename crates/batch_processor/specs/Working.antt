@@ -1,63 +1,49 @@
 -- What the worker's pass of a batch processor has between two turns, and what a turn does. (Trace
 -- SDK, Batching processor, Span Exporter; OpenTelemetry Protocol Exporter, Retry)
-use Rattle.std.specs.Prelude.{◌≡◌, ℕ, ◌<◌, ◌≤◌, Bool, true, false, List, [], ◌∷◌, ◌++◌, length}
+use Rattle.std.specs.Prelude.{◌≡◌, ℕ, ◌≤◌, Bool, true, false, List, [], ◌∷◌, ◌++◌, length}
 use Rattle.std.specs.Prelude.{Option, Some, None}
 use Rattle.std.specs.List.{AllByRecursion}
-use Rattle.model_span.specs.Spans.{SpanData}
 use Rattle.model_desk.specs.Retries.{Outcome}
-use Rattle.model_desk.specs.Waits.{IsRetryConfig}
-use Rattle.retry_core.specs.Retries.{outcome_view}
-use Rattle.span_exporter.specs.Handed.{Handed, Gains, handing}
+use Rattle.model_desk.specs.Waits.{RetryConfig, IsRetryConfig}
+use Rattle.span_exporter.specs.Handed.{Handed}
 use Rattle.batch_desk.specs.Batch.{BatchView}
+use Rattle.batch_sending.specs.Sendings.{Sending, Stage, to_send, to_judge, to_retry, attempts_at}
+use Rattle.batch_sending.specs.Sendings.{IsCountedAt, is_pending_at}
 use Rattle.model_processor.specs.Worker.{OutBatch, WorkerAccount}
 use Rattle.model_processor.specs.WorkerClauses.{EachLeadsOn, EndByWork, IsBodyOf, IsByWork, Origin}
+use Rattle.model_processor.specs.AnyAccounts.{after_handed}
 pub use Rattle.batch_processor.specs.Attempts.{attempts_from, attempts_by, attempts_with}
 pub use Rattle.batch_processor.specs.Attempts.{attempts_out, attempts_of, Work, outcomes_out}
 pub use Rattle.batch_processor.specs.Attempts.{HasRoom, IsPrepared, GoesOn}
-use Rattle.batch_processor.specs.declared.steps.Stage.{Stage}
-use Rattle.batch_processor.specs.declared.steps.Stage.TheVariants as stages
 
 -- ---- between two turns
 
--- how far the batch is: it is to be encoded, or this body is to be sent, or it was sent and had
--- this outcome, or it is to be sent again
-pub data HandStage : Type 0 where
-  to_encode : HandStage
-  to_send : List ℕ → HandStage
-  to_judge : List ℕ → Outcome → HandStage
-  to_retry : List ℕ → HandStage
-
-abbrev pub stage_view : {A : Type 0} → Stage A → HandStage
-stage_view stages.ToEncode = to_encode
-stage_view (stages.ToSend body) = to_send body.items
-stage_view (stages.ToJudge body outcome) = to_judge body.items (outcome_view outcome)
-stage_view (stages.ToRetry body from) = to_retry body.items
-
 pub record Hand : Type 0 where
   pub batch : BatchView
-  pub stage : HandStage
+  pub sending : Option Sending
 
 -- the body that was encoded, and that with which the batch was handed
-abbrev pub encoded_at : HandStage → Option (List ℕ)
-encoded_at to_encode = None
-encoded_at (to_send body) = Some body
-encoded_at (to_judge body outcome) = Some body
-encoded_at (to_retry body) = Some body
+abbrev pub encoded_in : Option Sending → Option (List ℕ)
+encoded_in None = None
+encoded_in (Some sending) = Some sending.body
 
-abbrev pub handed_at : HandStage → Option (List ℕ)
-handed_at to_encode = None
-handed_at (to_send body) = None
-handed_at (to_judge body outcome) = Some body
-handed_at (to_retry body) = Some body
+abbrev pub handed_at : List ℕ → Stage → Option (List ℕ)
+handed_at body to_send = None
+handed_at body (to_judge attempt outcome) = Some body
+handed_at body (to_retry attempts moment) = Some body
 
--- the outcome that is to be judged
-abbrev pub pending_at : HandStage → List Outcome
-pending_at (to_judge body outcome) = outcome ∷ []
-pending_at _ = []
+abbrev pub handed_in : Option Sending → Option (List ℕ)
+handed_in None = None
+handed_in (Some sending) = handed_at sending.body sending.stage
 
-abbrev pub in_hand : {X : Type 0} → X → (HandStage → X) → Option Hand → X
+-- whether an outcome is to be judged
+abbrev pub is_pending_in : Option Sending → Bool
+is_pending_in None = false
+is_pending_in (Some sending) = is_pending_at sending.stage
+
+abbrev pub in_hand : {X : Type 0} → X → (Option Sending → X) → Option Hand → X
 in_hand none f None = none
-in_hand none f (Some hand) = f hand.stage
+in_hand none f (Some hand) = f hand.sending
 
 abbrev pub with_outcomes : List Outcome → Option OutBatch → Option OutBatch
 with_outcomes outcomes None = None
@@ -66,27 +52,32 @@ with_outcomes outcomes (Some batch) = Some (record batch { outcomes = outcomes }
 abbrev pub work_of : Origin → WorkerAccount → List Outcome → Option Hand → Work
 work_of origin account outcomes hand = record {
   origin = origin;
-  account = record account {
-    out = with_outcomes (outcomes ++ in_hand [] pending_at hand) account.out;
-  };
-  encoded = in_hand None encoded_at hand;
+  account = record account { out = with_outcomes outcomes account.out };
+  encoded = in_hand None encoded_in hand;
 }
 
--- The body of these spans, which is no longer than it may be.
-pub record MayBeSent (max_body : ℕ) (spans : List SpanData) (body : List ℕ) : Type 0 where
-  pub means : IsBodyOf spans body
-  pub fits : length body ≤ max_body
+-- Each of these outcomes led to another attempt, but for the last one where it is to be judged.
+abbrev pub LeadTo : RetryConfig → Stage → List Outcome → Type 0
+LeadTo retry to_send outcomes = Unit {0}
+LeadTo retry (to_judge attempt outcome) outcomes =
+    (earlier : List Outcome) × (outcomes ≡ earlier ++ outcome ∷ []) × EachLeadsOn retry 1 earlier
+LeadTo retry (to_retry attempts moment) outcomes = EachLeadsOn retry 1 outcomes
 
--- what is so at each stage
-abbrev pub IsStage : Origin → List SpanData → List Outcome → HandStage → Type 0
-IsStage origin spans outcomes to_encode = outcomes ≡ []
-IsStage origin spans outcomes (to_send body) =
-    (outcomes ≡ []) × MayBeSent origin.max_body spans body
-IsStage origin spans outcomes (to_judge body outcome) =
-    (length outcomes < origin.retry.attempts) × MayBeSent origin.max_body spans body
-IsStage origin spans outcomes (to_retry body) =
-    (length outcomes < origin.retry.attempts) × MayBeSent origin.max_body spans body
-    × (1 ≤ length outcomes)
+-- The batch is on its way, with the body of its spans, which is no longer than it may be, after
+-- these outcomes of its attempts.
+pub record IsOnItsWay (origin : Origin) (batch : BatchView) (outcomes : List Outcome)
+    (sending : Sending) : Type 0 where
+  pub number : sending.number ≡ batch.number
+  pub retry : sending.retry ≡ origin.retry
+  pub means : IsBodyOf batch.spans sending.body
+  pub fits : length sending.body ≤ origin.max_body
+  pub made : length outcomes ≡ attempts_at sending.stage
+  pub counted : IsCountedAt origin.retry sending.stage
+  pub led : LeadTo origin.retry sending.stage outcomes
+
+abbrev pub IsAsFar : Origin → BatchView → List Outcome → Option Sending → Type 0
+IsAsFar origin batch outcomes None = outcomes ≡ []
+IsAsFar origin batch outcomes (Some sending) = IsOnItsWay origin batch outcomes sending
 
 -- The batch in hand is the one that the worker's account has out.
 pub record IsInHand (origin : Origin) (account : WorkerAccount) (outcomes : List Outcome)
@@ -94,32 +85,30 @@ pub record IsInHand (origin : Origin) (account : WorkerAccount) (outcomes : List
   pub out : account.out ≡ Some (record {
     number = hand.batch.number;
     spans = hand.batch.spans;
-    body = handed_at hand.stage;
+    body = handed_in hand.sending;
     outcomes = [];
   })
   pub room : hand.batch.room ≡ origin.desk.batch
   pub some : 1 ≤ length hand.batch.spans
   pub few : length hand.batch.spans ≤ origin.desk.batch
-  pub stage : IsStage origin hand.batch.spans outcomes hand.stage
+  pub far : IsAsFar origin hand.batch outcomes hand.sending
 
 abbrev pub IsTied : Origin → WorkerAccount → List Outcome → Option Hand → Type 0
 IsTied origin account outcomes None = (account.out ≡ None) × (outcomes ≡ [])
 IsTied origin account outcomes (Some hand) = IsInHand origin account outcomes hand
 
--- What is so between two turns, of a worker that hasn't left: each batch that ended did so by work,
--- and each outcome that was judged led to another attempt.
+-- What is so between two turns, of a worker that hasn't left: each batch that ended did so by work.
 pub record IsWorking (origin : Origin) (account : WorkerAccount) (outcomes : List Outcome)
     (hand : Option Hand) : Type 0 where
   pub here : account.left ≡ false
   pub retry : IsRetryConfig origin.retry
   pub by_work : AllByRecursion (IsByWork origin) account.ended
-  pub again : EachLeadsOn origin.retry 1 outcomes
   pub tied : IsTied origin account outcomes hand
 
 -- ---- what a step does
 
 -- All that a worker's pass has but the batch in hand: what the processor began with, what the
--- worker knows, and the outcomes that were judged of the batch that is out.
+-- worker knows, and the outcomes of the attempts of the batch that is out.
 pub record WorkerState : Type 0 where
   pub origin : Origin
   pub account : WorkerAccount
@@ -134,7 +123,7 @@ IsWorkingWith state hand = IsWorking state.origin state.account state.outcomes h
 -- A worker that has left has no batch in hand.
 pub record HasLeft (state : WorkerState) (hand : Option Hand) : Type 0 where
   pub none : hand ≡ None
-  pub judged : state.outcomes ≡ []
+  pub outcomes : state.outcomes ≡ []
   pub batches : EndByWork state.origin state.account
 
 -- What is so of a worker's pass, which keeps whether the worker has left.
@@ -143,8 +132,8 @@ pub record IsPassWith (left : Bool) (state : WorkerState) (hand : Option Hand) :
   pub works : left ≡ false → IsWorkingWith state hand
   pub has_left : left ≡ true → HasLeft state hand
 
-abbrev pub hand_at : BatchView → HandStage → Option Hand
-hand_at batch stage = Some (record { batch = batch; stage = stage })
+abbrev pub hand_at : BatchView → Option Sending → Option Hand
+hand_at batch sending = Some (record { batch = batch; sending = sending })
 
 -- A step may be taken: it is as between two turns, and the exporter has room.
 pub record IsReady (room : ℕ → ℕ) (state : WorkerState) (hand : Option Hand) : Type 0 where
@@ -163,9 +152,13 @@ abbrev pub StepsAside : WorkerState → Option Hand → WorkerState → Option H
 StepsAside old hand new hand' = (told : Option (List Handed)) (room : ℕ → ℕ)
     → IsPrepared room (work_in old hand) → TakesStep told told room old hand new hand'
 
--- The body was handed to the exporter, in this attempt, and its outcome is to be judged.
-pub record IsExported (told told' : Option (List Handed)) (batch : BatchView) (body : List ℕ)
-    (attempt : ℕ) (hand : Hand) : Type 0 where
-  pub outcome : Outcome
-  pub gains : Gains (handing batch.number attempt body outcome) told told'
-  pub hand_is : hand ≡ record { batch = batch; stage = to_judge body outcome }
+-- The batch is handed with its body from its first attempt on.
+abbrev pub begun_at : List ℕ → Stage → WorkerAccount → WorkerAccount
+begun_at body to_send account = after_handed body account
+begun_at body (to_judge attempt outcome) account = account
+begun_at body (to_retry attempts moment) account = account
+
+abbrev pub begun : Sending → WorkerState → WorkerState
+begun sending state = record state {
+  account = begun_at sending.body sending.stage state.account;
+}

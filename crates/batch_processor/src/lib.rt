@@ -6,11 +6,9 @@
 mod account;
 mod config;
 mod fault;
-mod hold;
 mod lock;
 mod pass;
 mod processor;
-mod shared;
 mod steps;
 mod worker;
 

@@ -5,16 +5,15 @@ ghost use Rattle.model_processor.specs.Passes.{after_drain, after_pop, after_pop
 ghost use Rattle.batch_processor.specs.Answers.{AsksShutdown, IsFlushed, IsShutDown};
 ghost use Rattle.batch_processor.specs.Holds.{WasCounted};
 
-use crate::account::BatchState;
 use crate::fault::WorkerLeft;
-use crate::lock::Lock;
-use account_book::{Account, Naming};
+use crate::lock::Holder;
+use account_book::Naming;
 use batch_desk::{DrainedNames, Totals};
 use otlp_span::{Entry, SpanData};
 use std::alloc::{Allocator, Global};
 use std::fmt;
 use std::marker::Model;
-use std::sync::{Arc, Wait};
+use std::sync::Wait;
 use trace_api::{EndPass, Ended};
 
 /// All spans that were accepted before the call were handed to the exporter and settled, or
@@ -29,9 +28,7 @@ pub struct Flushed;
 /// its caller to show is the lemma `pass_send` of `proofs/Crosses.antt`.
 #[derive(Drop)]
 pub struct Pass<J: Naming, R, A: Allocator = Global> {
-    pub(crate) lock: Arc<Lock<J, A>, A>,
-    pub(crate) account: Account<J, BatchState>,
-    pub(crate) rt: R,
+    pub(crate) holder: Holder<J, R, A>,
 }
 
 impl<J: Naming, R, A: Allocator> Model for Pass<J, R, A> {
@@ -41,9 +38,9 @@ impl<J: Naming, R, A: Allocator> Model for Pass<J, R, A> {
 
     ghost Value = { PassAccount };
 
-    ghost view = { λ p. account_in p.account };
+    ghost view = { λ p. account_in p.holder };
 
-    ghost invariant = { λ p. p.account ≡ pass (account_in p.account) };
+    ghost invariant = { λ p. p.holder ≡ pass (account_in p.holder) };
 }
 
 /// Writes the name of the type alone: what the lock guards isn't looked at.
@@ -64,11 +61,8 @@ impl<J: Naming, R: Wait, A: Allocator + Copy> Pass<J, R, A> {
     pub fn force_flush(&mut self) -> Result<Flushed, WorkerLeft>
         ensures { IsFlushed result self.old self.new }
     {
-        let Pass { lock, account, rt } = self;
-        let mut shared = lock.shared.lock(rt);
-        let after = shared.flush(account);
-        let mark = lock.end(shared, after);
-        lock.wait(rt, account, mark)
+        let mark = self.holder.ask(false);
+        self.holder.wait(mark)
     }
 
     /// Admits no span any more, on any pass, and waits as `force_flush` (Trace SDK, "Shutdown").
@@ -79,11 +73,8 @@ impl<J: Naming, R: Wait, A: Allocator + Copy> Pass<J, R, A> {
     pub fn shutdown(&mut self) -> Result<Flushed, WorkerLeft>
         ensures { IsShutDown result self.old self.new }
     {
-        let Pass { lock, account, rt } = self;
-        let mut shared = lock.shared.lock(rt);
-        let after = shared.shutdown(account);
-        let mark = lock.end(shared, after);
-        lock.wait(rt, account, mark)
+        let mark = self.holder.ask(true);
+        self.holder.wait(mark)
     }
 
     /// Admits no span any more, on any pass, as `shutdown` does, and doesn't wait: the worker goes
@@ -91,10 +82,7 @@ impl<J: Naming, R: Wait, A: Allocator + Copy> Pass<J, R, A> {
     pub fn begin_shutdown(&mut self)
         ensures { AsksShutdown self.old self.new }
     {
-        let Pass { lock, account, rt } = self;
-        let mut shared = lock.shared.lock(rt);
-        let asked = shared.shutdown(account);
-        lock.end(shared, asked);
+        self.holder.ask(true);
     }
 
     /// The counts of all that came so far, on any pass, with what the worker did: as they are in
@@ -103,8 +91,7 @@ impl<J: Naming, R: Wait, A: Allocator + Copy> Pass<J, R, A> {
         ensures counts { WasCounted result self.old }
         ensures unchanged { self.new ≡ self.old }
     {
-        let Pass { lock, account, rt } = self;
-        lock.shared.lock(rt).totals(account)
+        self.holder.totals()
     }
 
     /// Takes the newest entry out of the ledger, if there is one.
@@ -112,8 +99,7 @@ impl<J: Naming, R: Wait, A: Allocator + Copy> Pass<J, R, A> {
         ensures some { IfSome result (λ entry. self.new ≡ after_pop (entry_view entry) self.old) }
         ensures none { IfNone result (self.new ≡ self.old) }
     {
-        let Pass { lock, account, rt } = self;
-        lock.shared.lock(rt).pop_entry(account)
+        self.holder.pop_entry()
     }
 
     /// Takes the newest entry out of the ledger of lost spans, if there is one: of a batch that was
@@ -123,8 +109,7 @@ impl<J: Naming, R: Wait, A: Allocator + Copy> Pass<J, R, A> {
             (λ entry. self.new ≡ after_pop_lost (entry_view entry) self.old) }
         ensures none { IfNone result (self.new ≡ self.old) }
     {
-        let Pass { lock, account, rt } = self;
-        lock.shared.lock(rt).pop_lost(account)
+        self.holder.pop_lost()
     }
 
     /// Takes all names out of both ledgers in one hold of the lock, which is as short for many
@@ -133,9 +118,7 @@ impl<J: Naming, R: Wait, A: Allocator + Copy> Pass<J, R, A> {
     pub fn drain_names(&mut self) -> DrainedNames<A>
         ensures { self.new ≡ after_drain result.dropped result.lost self.old }
     {
-        let Pass { lock, account, rt } = self;
-        let names = lock.shared.lock(rt).drain_names(account);
-        names.reversed()
+        self.holder.drain_names().reversed()
     }
 }
 
@@ -148,12 +131,8 @@ impl<J: Naming, R: Wait, A: Allocator + Copy> EndPass<SpanData<A>> for Pass<J, R
     /// it on its own slip: `Dropped`, as `QueueFull`. After a shutdown it is only counted: `Late`.
     /// No memory is taken. (profile: tickets, the ledger, late spans)
     fn admit(&mut self, span: SpanData<A>) -> Ended {
-        let Pass { lock, account, rt } = self;
-        let mut shared = lock.shared.lock(rt);
-        let after = shared.admit(account, span);
-        let (answer, remains, spent) = lock.end(shared, after);
-        // A span that doesn't wait is freed here, once the hold is over, and so is one that was
-        // sent.
+        let (answer, remains, spent) = self.holder.admit(span);
+        // A span that doesn't wait is freed here, without the lock, and so is one that was sent.
         drop(remains);
         drop(spent);
         answer

@@ -16,9 +16,8 @@ ghost use Rattle.model_processor.specs.WorkerClauses.{IsAccounted, WorksUntilItL
 use crate::account::{BatchBlank, BatchState, Begins, WorkerBegins};
 use crate::config::{BatchConfig, Setup};
 use crate::fault::NewFault;
-use crate::lock::Lock;
+use crate::lock::{Holder, Lock};
 use crate::pass::Pass;
-use crate::shared::Shared;
 use crate::worker::WorkerPass;
 use account_book::{Account, Naming};
 use batch_desk::{Desk, DeskConfig};
@@ -31,12 +30,10 @@ use std::sync::{Arc, Wait};
 /// A batch processor (Trace SDK, "Batching processor"). In contracts it is what it began with.
 #[derive(Drop)]
 pub struct BatchProcessor<J: Naming, R, A: Allocator = Global> {
-    lock: Arc<Lock<J, A>, A>,
-    account: Account<J, BatchState>,
+    holder: Holder<J, R, A>,
     setup: Setup,
     // Takes the place of the desk in the end, so that to take that out needs no memory.
     spare: Desk<A>,
-    rt: R,
 }
 
 impl<J: Naming, R, A: Allocator> Model for BatchProcessor<J, R, A> {
@@ -49,7 +46,7 @@ impl<J: Naming, R, A: Allocator> Model for BatchProcessor<J, R, A> {
 
     ghost view = { λ p. setup_view p.setup };
 
-    ghost invariant = { λ p. p.account ≡ processor (setup_view p.setup) };
+    ghost invariant = { λ p. p.holder ≡ processor (setup_view p.setup) };
 }
 
 /// Writes how many passes there are. What the lock guards isn't looked at.
@@ -115,17 +112,11 @@ impl<J: Naming, R: Wait + Drop, A: Allocator + Copy> BatchProcessor<J, R, A> {
             });
         }
         let BatchProcessor {
-            lock,
-            account,
+            holder,
             setup: _,
             spare,
-            rt,
         } = self;
-        let of_worker = worker.abandon();
-        let desk = lock
-            .shared
-            .lock(&rt)
-            .close(account, of_worker, passes, spare);
+        let desk = holder.close(worker.abandon(), passes, spare);
         Ok(Accounts { desk })
     }
 }
@@ -270,22 +261,14 @@ impl<J: Naming, R: Wait + Copy, A: Allocator + Copy> BatchProcessor<J, R, A> {
         let mut of_worker = book.open::<BatchState>();
         book.record::<Setup, WorkerBegins>(&mut of_worker, &setup);
         let accounts = book.open_all::<BatchState, A>(alloc, setup.passes)?;
-        let shared = Shared {
-            desk,
-            left: false,
-            spent,
-            book,
-            setup,
-        };
-        let lock = Arc::new(alloc, Lock::new(shared))?;
+        let lock = Arc::new(alloc, Lock::new(desk, spent, book, setup))?;
         let passes = give_passes(alloc, rt, &lock, accounts)?;
-        let worker = WorkerPass::new(alloc, rt, &lock, of_worker, &setup)?;
+        let worker = WorkerPass::new(alloc, Holder::new(&lock, of_worker, rt)?, &setup)?;
+        let holder = Holder::new(&lock, account, rt)?;
         let processor = BatchProcessor {
-            lock,
-            account,
+            holder,
             setup,
             spare,
-            rt,
         };
         Ok(Parts {
             processor,
@@ -319,8 +302,8 @@ fn give_passes<J: Naming, R: Copy, A: Allocator>(
 {
     let mut passes = Vec::with_capacity(alloc, accounts.len())?;
     for account in accounts {
-        let lock = Arc::try_clone(lock)?;
-        passes.push_reserved(Pass { lock, account, rt });
+        let holder = Holder::new(lock, account, rt)?;
+        passes.push_reserved(Pass { holder });
     }
     Ok(passes)
 }

@@ -9,16 +9,15 @@ ghost use Rattle.span_exporter.specs.Handed.{Handed};
 ghost use Rattle.batch_processor.specs.Views.{setup_view};
 ghost use Rattle.batch_processor.specs.Working.{GoesOn, IsPrepared};
 
-use crate::account::BatchState;
 use crate::config::Setup;
-use crate::lock::Lock;
-use crate::steps::{InHand, Worker};
-use account_book::{Account, Naming};
+use crate::lock::Holder;
+use crate::steps::{BatchSender, InHand};
+use account_book::Naming;
 use rand_core::Rng;
 use span_exporter::Exporter;
 use std::alloc::{AllocError, Allocator, Global};
 use std::marker::Model;
-use std::sync::{Arc, Wait};
+use std::sync::Wait;
 use std::{fmt, mem, time};
 use trace_api::Clock;
 
@@ -37,7 +36,7 @@ pub enum WorkEnd {
 /// another thread where the runtime's value may: what `thread::spawn` asks its caller to show is
 /// the lemma `worker_send` of `proofs/Crosses.antt`. Where the pass is dropped, the worker leaves.
 pub struct WorkerPass<J: Naming, R: Wait + Drop, A: Allocator + Copy = Global> {
-    pub(crate) worker: Worker<J, R, A>,
+    pub(crate) sender: BatchSender<J, R, A>,
     pub(crate) in_hand: Option<InHand<A>>,
     pub(crate) left: bool,
 }
@@ -47,9 +46,9 @@ impl<J: Naming, R: Wait + Drop, A: Allocator + Copy> Model for WorkerPass<J, R, 
 
     ghost Value = { Work };
 
-    ghost view = { λ p. work_in p.worker p.in_hand };
+    ghost view = { λ p. work_in p.sender p.in_hand };
 
-    ghost invariant = { λ p. IsPassWith p.left p.worker p.in_hand };
+    ghost invariant = { λ p. IsPassWith p.left p.sender p.in_hand };
 }
 
 /// Writes the name of the type alone, as a pass does.
@@ -67,31 +66,26 @@ impl<J: Naming, R: Wait + Drop, A: Allocator + Copy> WorkerPass<J, R, A> {
     /// `AllocError` where memory was refused.
     pub(crate) fn new(
         alloc: A,
-        rt: R,
-        lock: &Arc<Lock<J, A>, A>,
-        account: Account<J, BatchState>,
+        holder: Holder<J, R, A>,
         setup: &Setup,
     ) -> Result<WorkerPass<J, R, A>, AllocError>
-        requires account { account ≡ worker (setup_view setup.now) new_worker }
+        requires account { holder ≡ worker (setup_view setup.now) new_worker }
         requires retry { IsRetryConfig setup.now.config.retry }
         ensures { IfOk result (λ pass. pass
             ≡ record { origin = setup_view setup.now; account = new_worker; encoded = None }) }
     {
         let outcomes = Vec::with_capacity(alloc, 5)?;
         let spent = Vec::with_capacity(alloc, setup.config.desk.batch)?;
-        let lock = Arc::try_clone(lock)?;
         let setup = *setup;
-        let worker = Worker {
-            lock,
-            account,
+        let sender = BatchSender {
+            holder,
             outcomes,
             spent,
             setup,
             alloc,
-            rt,
         };
         Ok(WorkerPass {
-            worker,
+            sender,
             in_hand: None,
             left: false,
         })
@@ -147,20 +141,16 @@ impl<J: Naming, R: Wait + time::Clock + Drop, A: Allocator + Copy> WorkerPass<J,
         ensures drained { IsTrue result → self.new.account.drained ≡ true }
         ensures none_out { IsTrue result → self.new.account.out ≡ None }
     {
-        let WorkerPass {
-            worker,
-            in_hand,
-            left: _,
-        } = self;
-        let Some(hand) = in_hand.take() else {
+        let Some(hand) = self.in_hand.take() else {
             let now = clock.now();
-            let Some(hand) = worker.take(now) else {
-                return worker.drained(now);
+            let Some(hand) = self.sender.take(now) else {
+                return self.sender.drained(now);
             };
-            keep(in_hand, Some(hand));
+            keep(&mut self.in_hand, Some(hand));
             return false;
         };
-        keep(in_hand, worker.step(hand, exporter, clock, rng));
+        let kept = self.sender.step(hand, exporter, clock, rng);
+        keep(&mut self.in_hand, kept);
         false
     }
 }
@@ -175,15 +165,11 @@ impl<J: Naming, R: Wait + time::Clock + Drop, A: Allocator + Copy> WorkerPass<J,
         ensures judged { IfSome self.new.account.out
             (λ batch. EachLeadsOn self.new.origin.retry 1 batch.outcomes) }
     {
-        let WorkerPass {
-            worker,
-            in_hand,
-            left: _,
-        } = self;
-        let Some(hand) = in_hand.take() else {
+        let Some(hand) = self.in_hand.take() else {
             return;
         };
-        keep(in_hand, worker.judge_pending(hand, clock, rng));
+        let kept = self.sender.judge(hand, clock, rng);
+        keep(&mut self.in_hand, kept);
     }
 }
 
@@ -209,39 +195,34 @@ impl<J: Naming, R: Wait + Drop, A: Allocator + Copy> WorkerPass<J, R, A> {
           encoded = None;
         } }
     {
-        let WorkerPass {
-            worker,
-            in_hand,
-            left,
-        } = self;
-        if *left {
+        if self.left {
             return;
         }
-        *left = true;
-        let Some(hand) = in_hand.take() else {
-            worker.leave();
+        self.left = true;
+        let Some(hand) = self.in_hand.take() else {
+            self.sender.leave();
             return;
         };
-        worker.abandon(hand, true);
+        self.sender.abandon(hand, true);
     }
 
     /// Abandons the batch in hand, if there is one, as `leave` does.
-    pub(crate) fn abandon(self) -> Account<J, BatchState>
+    pub(crate) fn abandon(self) -> Holder<J, R, A>
         ensures account { result ≡ worker self.origin (abandon self.account) }
         ensures by_work { EndByWork self.origin (abandon self.account) }
         ensures works { WorksUntilItLeaves self.origin self.account }
     {
         let WorkerPass {
-            mut worker,
+            mut sender,
             in_hand,
             left: _,
         } = self;
         match in_hand {
             Some(hand) => {
-                worker.abandon(hand, false);
-                worker.into_account()
+                sender.abandon(hand, false);
+                sender.into_holder()
             }
-            None => worker.into_account(),
+            None => sender.into_holder(),
         }
     }
 }

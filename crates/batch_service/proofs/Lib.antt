@@ -1,4 +1,5 @@
 mod Crosses
+mod Begins
 mod Names
 mod Stops
 mod Works

@@ -196,7 +196,9 @@ where
     J: Naming + Send + Sync + 'static,
     R: Threads + Wait + time::Clock + Eprint + Copy + Send + Sync + 'static,
 {
-    let room = Room::new(alloc, passes.len()).ok()?;
+    let Ok(room) = Room::new(alloc, passes.len()) else {
+        return None;
+    };
     let lent = mem::replace(passes, Vec::new(alloc));
     let (back, outputs) = work_on_all(rt, room, lent, ends);
     *passes = back;

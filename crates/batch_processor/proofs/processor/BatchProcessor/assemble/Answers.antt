@@ -3,8 +3,8 @@ use Rattle.model_processor.proofs.Closing.{kept_begins}
 use Rattle.batch_processor.specs.Views.{setup_view}
 use Rattle.batch_processor.proofs.processor.BatchProcessor.assemble.Goals as goal
 
-pub invariant_of-shared : goal.invariant_of-shared
-invariant_of-shared g c _ _ =
+pub new-requires : goal.new-requires
+new-requires g c _ _ =
     let origin = setup_view c.args.setup in let opened = c.in_ok-accounts.accounts.items in
     let few : length opened ≤ c.args.setup.passes = search rules in
     kept_begins origin c.args.desk.last_moment c.args.desk c.named-book.result

@@ -10,5 +10,5 @@ invariant_of-self-2 g c =
     sym c.take.ensures.value ∙ c.in-Some.is in
     subst (λ (h : Option Hand). IsPassWith true c.abandon.new.self h) (sym c.take.ensures.after)
     (subst (λ (s : WorkerState). IsPassWith true s None) (sym c.abandon.ensures)
-    (leaves_with c.self.inside.worker c.in-Some.hand
-    (subst (IsWorkingWith c.self.inside.worker) was (c.self.invariant.works c.if-left.false))))
+    (leaves_with c.self.inside.sender c.in-Some.hand
+    (subst (IsWorkingWith c.self.inside.sender) was (c.self.invariant.works c.if-self.false))))

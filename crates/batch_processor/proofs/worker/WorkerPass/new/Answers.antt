@@ -22,6 +22,5 @@ invariant_of-result g c =
       here = refl;
       retry = c.requires.retry;
       by_work = tt;
-      again = tt;
       tied = (refl, refl);
     })))

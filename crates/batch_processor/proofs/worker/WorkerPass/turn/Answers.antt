@@ -11,7 +11,7 @@ invariant_of-self g c =
     let room = g.E.Exporter.room c.args.exporter.now in
     let was : c.take.new.self ≡ None = search rules in
     let step =
-    drained_step c.self.inside.worker c.take-in_default.new.self c.drained.new.self c.drained.result
+    drained_step c.self.inside.sender c.take-in_default.new.self c.drained.new.self c.drained.result
     c.in_default-take.ensures c.drained.ensures.yes c.drained.ensures.no in
     let here : c.self.inside.left ≡ false =
     sym c.self.invariant.left_is ∙ ap (λ (x : Work). x.account.left) c.self.view_is
@@ -26,9 +26,9 @@ returns-in_default-take-clause-goes_on g c =
     let was : c.self.inside.in_hand ≡ None = search rules in
     let left : c.take.new.self ≡ None = search rules in
     let step =
-    drained_step c.self.inside.worker c.take-in_default.new.self c.drained.new.self c.drained.result
+    drained_step c.self.inside.sender c.take-in_default.new.self c.drained.new.self c.drained.result
     c.in_default-take.ensures c.drained.ensures.yes c.drained.ensures.no in
-    turn_goes told told room c.self.inside.worker c.drained.new.self c.self.inside.in_hand None None
+    turn_goes told told room c.self.inside.sender c.drained.new.self c.self.inside.in_hand None None
     c.take.new.self c.args.self.now c.self.view_is was left
     (step told room tt)
 
@@ -40,7 +40,7 @@ invariant_of-self-in_default g c =
     sym c.self.invariant.left_is ∙ ap (λ (x : Work). x.account.left) c.self.view_is
     ∙ c.requires.here in
     pass_works c.self.inside.left c.take-in_default.new.self c.keep.new.in_hand here
-    (turn_ready told told room c.self.inside.worker c.take-in_default.new.self None
+    (turn_ready told told room c.self.inside.sender c.take-in_default.new.self None
     (Some c.in-Some-take.hand) c.keep.new.in_hand c.keep.ensures
     (c.in-Some-take.ensures told room tt)).works
 
@@ -48,7 +48,7 @@ pub returns-in_default-clause-prepared : goal.returns-in_default-clause-prepared
 returns-in_default-clause-prepared g c =
     let told = g.E.Exporter.handed c.args.exporter.now in
     let room = g.E.Exporter.room c.args.exporter.now in
-    (turn_ready told told room c.self.inside.worker c.take-in_default.new.self None
+    (turn_ready told told room c.self.inside.sender c.take-in_default.new.self None
     (Some c.in-Some-take.hand) c.keep.new.in_hand c.keep.ensures
     (c.in-Some-take.ensures told room tt)).prepared
 
@@ -57,7 +57,7 @@ returns-in_default-clause-goes_on g c =
     let told = g.E.Exporter.handed c.args.exporter.now in
     let room = g.E.Exporter.room c.args.exporter.now in
     let was : c.self.inside.in_hand ≡ None = search rules in
-    turn_goes told told room c.self.inside.worker c.take-in_default.new.self c.self.inside.in_hand
+    turn_goes told told room c.self.inside.sender c.take-in_default.new.self c.self.inside.in_hand
     None
     (Some c.in-Some-take.hand) c.keep.new.in_hand c.args.self.now c.self.view_is was c.keep.ensures
     (c.in-Some-take.ensures told room tt)
@@ -68,6 +68,6 @@ returns-in_default-take-clause-none_out g c = λ _.
     let room = g.E.Exporter.room c.args.exporter.now in
     let left : c.take.new.self ≡ None = search rules in
     let step =
-    drained_step c.self.inside.worker c.take-in_default.new.self c.drained.new.self c.drained.result
+    drained_step c.self.inside.sender c.take-in_default.new.self c.drained.new.self c.drained.result
     c.in_default-take.ensures c.drained.ensures.yes c.drained.ensures.no in
     no_hand_out c.drained.new.self c.take.new.self left (step told room tt).ready.works
