@@ -5,7 +5,7 @@ use crate::equal::assert_equal;
 use crate::fixture::{Left, exporter};
 use crate::passes_on_threads::{Plan, Task, carry};
 use batch_desk::{FateCounts, Totals};
-use batch_processor::{BatchBlank, Naming};
+use batch_processor::{BatchBlank, ManualClock, Naming};
 use drop_ledger::DropCounts;
 use otlp_proto::DEFAULT_MAX_BODY;
 use otlp_span::Reason;
@@ -61,7 +61,7 @@ where
     requires { blank ≡ J.name }
 {
     let mut exporter = exporter(&rt, alloc, &[]);
-    let stage = AtomicU64::new(0);
+    let (stage, clock) = (AtomicU64::new(0), ManualClock::new(0));
     let plan = Plan {
         passes,
         queue: 64,
@@ -70,7 +70,7 @@ where
         task,
         turns: ended.saturating_add(2000),
     };
-    let left = carry::<J, R, _>(rt, alloc, blank, plan, &stage, &mut exporter);
+    let left = carry::<J, R, _, _>(rt, alloc, blank, plan, &stage, &mut exporter, &clock);
     let handed = exporter.handed();
     assert_balanced(&rt, &left, handed.len() as u64, ended);
     let (sent, late) = (left.totals.handed, left.totals.late);
@@ -116,7 +116,7 @@ where
     requires { blank ≡ J.name }
 {
     let mut exporter = exporter(&rt, alloc, &[Outcome::Refused(400); 40]);
-    let stage = AtomicU64::new(0);
+    let (stage, clock) = (AtomicU64::new(0), ManualClock::new(0));
     let plan = Plan {
         passes: 3,
         queue: 20_000,
@@ -125,7 +125,7 @@ where
         task: Task::LoseMany(10_000),
         turns: 20_000,
     };
-    let left = carry::<J, R, _>(rt, alloc, blank, plan, &stage, &mut exporter);
+    let left = carry::<J, R, _, _>(rt, alloc, blank, plan, &stage, &mut exporter, &clock);
     let want = Totals {
         accepted: 20_000,
         taken: 20_000,

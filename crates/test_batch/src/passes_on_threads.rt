@@ -5,8 +5,7 @@ ghost use Rattle.batch_processor.specs.Working.{IsPrepared};
 use crate::equal::assert_equal;
 use crate::fixture::{Left, close, end, make};
 use batch_processor::{
-    BatchBlank, BatchConfig, Clock as _, Flushed, ManualClock, Naming, Parts, Pass, SystemClock,
-    WorkEnd, WorkerLeft, WorkerPass,
+    BatchBlank, BatchConfig, Flushed, Naming, Parts, Pass, WorkEnd, WorkerLeft, WorkerPass,
 };
 use otlp_span::Reason;
 use span_exporter::Exporter;
@@ -28,8 +27,9 @@ pub(crate) const ASKING: u64 = 1;
 /// The other thread was answered.
 pub(crate) const ANSWERED: u64 = 2;
 
-/// How often a test looks whether another thread has come this far. Then it fails.
-pub(crate) const LOOKS: u32 = 1_000_000;
+/// How often a test looks whether another thread has come this far, which takes 20 seconds or more.
+/// Then it fails.
+pub(crate) const LOOKS: u32 = 4_000_000;
 
 /// Looks `looks` times whether this stage is reached, and lets others go first at each thousandth
 /// look.
@@ -68,19 +68,35 @@ pub(crate) enum Task {
     /// A thread for each pass but the first ends this number of spans. Meanwhile the first one pops
     /// their names: each of them is refused. All have room in the queue, and fill their batches.
     LoseMany(u64),
-    /// This number of spans ends on the first pass, each a millisecond or two after the one before
-    /// is sent.
-    EndSpaced(u64),
+    /// Three spans end, one less than a batch has. Some milliseconds later, when the worker waits,
+    /// this call has it send them.
+    CallWorker(Call),
     /// A span ends while another one is being sent.
     EndWhileSending,
     /// A flush on the first pass, which ended nothing, asks for a span that ended on the last one,
     /// and whose batch isn't full.
     Flush,
+    /// A span ends on the last pass. Each other one has a thread of its own, which asks for a flush.
+    /// The stage counts how often one asks or is answered.
+    FlushOnEach,
     /// A flush asks for a span, which no thread sends until the worker leaves.
     FlushUntilItLeaves,
     /// A thread ends three spans on the first pass. After it the last pass shuts the processor
     /// down, and then a span is late.
     EndThree,
+}
+
+/// What gives a worker that waits a batch to send.
+#[derive(Debug, Clone, Copy)]
+pub(crate) enum Call {
+    /// A span ends, and fills the batch.
+    End,
+    /// A flush, which waits until the batch is sent.
+    Flush,
+    /// A shutdown, which waits too.
+    Shutdown,
+    /// A shutdown that doesn't wait.
+    BeginShutdown,
 }
 
 /// Ends this number of spans on a pass.
@@ -169,34 +185,49 @@ where
     );
 }
 
-/// Looks for some seconds whether an exporter has set another moment than this.
-fn has_moved(rt: &impl Clock, moment: &AtomicU64, was: u64) -> bool {
-    for _ in 0..5000u32 {
-        if moment.load(Ordering::SeqCst) != was {
-            return true;
-        }
-        thread::sleep(rt, Duration::from_millis(1));
-    }
-    false
-}
-
-/// Ends this number of spans on a pass, each a while after the one before is sent, when the worker
-/// waits. The exporter is to set the moment of each after its end.
-fn end_spaced<J: Naming, R: Wait + Abort + Clock + Copy>(
-    rt: R,
+/// Gives a worker that waits a batch to send, by this call, and looks whether it is sent.
+fn call_worker<J: Naming, R: Wait + Abort + Clock>(
+    rt: &R,
     alloc: Global,
     pass: &mut Pass<J, R>,
-    spans: u64,
-    moment: &AtomicU64,
+    call: Call,
+    stage: &AtomicU64,
 ) {
-    let clock = SystemClock::new(rt);
-    for ticket in 0..spans {
-        thread::sleep(&rt, Duration::from_millis(1));
-        let began = clock.now();
-        moment.store(began, Ordering::SeqCst);
-        assert_equal(&rt, end(&rt, alloc, pass), Ended::Queued(ticket));
-        assert_equal(&rt, has_moved(&rt, moment, began), true);
+    for ticket in 0..3 {
+        assert_equal(rt, end(rt, alloc, pass), Ended::Queued(ticket));
     }
+    thread::sleep(rt, Duration::from_millis(2));
+    match call {
+        Call::End => assert_equal(rt, end(rt, alloc, pass), Ended::Queued(3)),
+        Call::Flush => assert_equal(rt, pass.force_flush(), Ok(Flushed)),
+        Call::Shutdown => assert_equal(rt, pass.shutdown(), Ok(Flushed)),
+        Call::BeginShutdown => pass.begin_shutdown(),
+    }
+    assert_equal(rt, is_reached(rt, stage, SENDING, LOOKS), true);
+}
+
+/// Each pass but the last one has a thread of its own, which asks for a flush. All are answered.
+fn flush_on_each<J, R>(rt: R, passes: &mut [Pass<J, R>], stage: &AtomicU64)
+where
+    J: Naming + Send + Sync + 'static,
+    R: Threads + Wait + Abort + Clock + Copy + Send + Sync + 'static,
+{
+    let flushes = passes.len().saturating_sub(1) as u64;
+    let all = flushes.saturating_mul(2);
+    thread::for_each_mut(
+        &rt,
+        passes,
+        64,
+        &|index, pass: &mut Pass<J, R>| {
+            if (index as u64) < flushes {
+                stage.fetch_add(1, Ordering::SeqCst);
+                assert_equal(&rt, pass.force_flush(), Ok(Flushed));
+                stage.fetch_add(1, Ordering::SeqCst);
+            } else {
+                assert_equal(&rt, is_reached(&rt, stage, all, LOOKS), true);
+            }
+        },
+    );
 }
 
 /// Does a task with the first pass.
@@ -251,9 +282,13 @@ where
         Task::EndMany(spans) => end_on_each(rt, alloc, passes.as_mut_slice(), spans, false),
         Task::EndLate(spans) => end_on_each(rt, alloc, passes.as_mut_slice(), spans, true),
         Task::LoseMany(spans) => lose_on_each(rt, alloc, passes.as_mut_slice(), spans),
-        Task::EndSpaced(spans) => {
+        Task::CallWorker(call) => {
             let first = passes.first_mut().expect(&rt, "a pass");
-            end_spaced(rt, alloc, first, spans, stage);
+            call_worker(&rt, alloc, first, call, stage);
+        }
+        Task::FlushOnEach => {
+            end_on_last(&rt, alloc, passes.as_mut_slice());
+            flush_on_each(rt, passes.as_mut_slice(), stage);
         }
         _ => {
             if matches!(task, Task::Flush) {
@@ -275,31 +310,42 @@ where
 }
 
 /// Works until all is drained, which takes no more than this number of turns.
-fn drain<J, R, E>(rt: R, alloc: Global, worker: &mut WorkerPass<J, R>, exporter: &mut E, turns: u64)
+fn drain<J, R, E, C>(
+    rt: R,
+    alloc: Global,
+    worker: &mut WorkerPass<J, R>,
+    exporter: &mut E,
+    clock: &C,
+    turns: u64,
+)
 where
     J: Naming,
     R: Wait + Abort + Clock + Copy,
     E: Exporter,
+    C: batch_processor::Clock,
     requires { IsPrepared (E.room exporter.old) worker.old }
 {
     let mut rng = WordsRng::new(Vec::new(alloc));
-    let end = worker.work(exporter, &ManualClock::new(0), &mut rng, turns);
+    let end = worker.work(exporter, clock, &mut rng, turns);
     assert_equal(&rt, end, WorkEnd::Drained);
 }
 
-/// Other threads have the passes, while this one sends what they end. Then all is closed out.
-pub(crate) fn carry<J, R, E>(
+/// Other threads have the passes, while this one sends what they end, by this clock. Then all is
+/// closed out.
+pub(crate) fn carry<J, R, E, C>(
     rt: R,
     alloc: Global,
     blank: BatchBlank,
     plan: Plan,
     stage: &AtomicU64,
     exporter: &mut E,
+    clock: &C,
 ) -> Left
 where
     J: Naming + Send + Sync + 'static,
     R: Threads + Wait + Abort + Clock + Copy + Send + Sync + 'static,
     E: Exporter,
+    C: batch_processor::Clock,
     requires { blank ≡ J.name }
 {
     let Plan {
@@ -322,7 +368,7 @@ where
     let (passes, ()) = thread::join(
         &rt,
         move || do_task(rt, alloc, passes, task, stage),
-        || drain(rt, alloc, &mut worker, exporter, turns),
+        || drain(rt, alloc, &mut worker, exporter, clock, turns),
     );
     close(rt, alloc, processor, passes, worker)
 }

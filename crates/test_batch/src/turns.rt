@@ -125,8 +125,9 @@ fn one_word_is_drawn_for_each_reply(rt: HostRuntime) {
     draw::<Brand, HostRuntime>(rt, rt.alloc(), BatchBlank::new());
 }
 
-/// Nothing is to be done: how long twenty turns take, in nanoseconds.
-fn idle<J, R>(rt: R, alloc: Global, blank: BatchBlank) -> u64
+/// How long twenty turns take, in nanoseconds, in which nothing can be done: this number of spans
+/// ended, as many as a batch has or fewer, and the batch is to be sent again in two seconds.
+fn idle<J, R>(rt: R, alloc: Global, blank: BatchBlank, batch: usize, spans: u64) -> u64
 where
     J: Naming,
     R: Wait + Abort + time::Clock + Copy,
@@ -134,24 +135,30 @@ where
 {
     let Parts {
         processor,
-        passes,
+        mut passes,
         mut worker,
-    } = make::<J, R, Global>(rt, alloc, blank, config(8, 4), 1, 0);
-    let mut exporter = exporter(&rt, alloc, &[]);
+    } = make::<J, R, Global>(rt, alloc, blank, config(8, batch), 1, 0);
+    let mut exporter = exporter(&rt, alloc, &[LATER]);
+    queue(&rt, alloc, passes.as_mut_slice(), 0, spans);
+    work(rt, alloc, &mut worker, &mut exporter, 0, 4);
     let clock = SystemClock::new(rt);
     let began = clock.now();
-    work(rt, alloc, &mut worker, &mut exporter, 0, 20);
+    work(rt, alloc, &mut worker, &mut exporter, SECOND, 20);
     let took = clock.now().saturating_sub(began);
     close(rt, alloc, processor, passes, worker);
     took
 }
 
-/// A turn without anything to do waits for five milliseconds, so twenty of them take no less than
-/// forty, though some may be woken early.
+/// A turn waits for five milliseconds where no span waits, a batch isn't full, or it isn't time yet
+/// to send one again. So twenty turns take no less than forty, though some may be woken early: the
+/// worker takes no processor meanwhile.
 #[test]
 fn idle_turns_take_their_time(rt: HostRuntime) {
-    let took = idle::<Brand, HostRuntime>(rt, rt.alloc(), BatchBlank::new());
-    assert_equal(&rt, took >= 40_000_000, true);
+    for (batch, spans) in [(4, 0), (4, 1), (1, 1)] {
+        let blank = BatchBlank::new();
+        let took = idle::<Brand, HostRuntime>(rt, rt.alloc(), blank, batch, spans);
+        assert_equal_at(&rt, took >= 40_000_000, true, (batch, spans));
+    }
 }
 
 /// Asserts how the parts of a processor of two passes are shown.

@@ -1,4 +1,4 @@
-use Rattle.test_batch.proofs.while_sending.a_flush_of_a_batch_that_is_dropped_is_answered.Given
+use Rattle.test_batch.proofs.while_sending.two_flushes_that_wait_for_one_batch_are_answered.Given
     as goal
 
 abbrev pub ghosts-watch : goal.ghosts-watch
