@@ -1,6 +1,6 @@
 -- A request that was answered within its span.
 use Rattle.std.proofs.Common.{◌≡◌, refl, sym, ap, subst, ℕ, ◌+◌, List, [], ◌∷◌, ◌++◌, map, Bool}
-use Rattle.std.proofs.Common.{true, false, if◌then◌else◌, Option, Some, None, IfSome}
+use Rattle.std.proofs.Common.{true, false, if◌then◌else◌, Option, Some, None}
 use Rattle.std.proofs.Common.{◌⊎◌, inl, inr}
 use Rattle.std.specs.List.{list_any}
 use Rattle.rand_core.specs.Stream.{Stream}
@@ -19,7 +19,7 @@ use Rattle.traced_http.specs.Attributes.{ending_of, request_pairs}
 use Rattle.http.specs.Request.{head_of}
 use Rattle.traced_http.specs.RequestSpans.{GoesOn, GoesOnIfAny, LentSpan, counted, lent_span}
 use Rattle.traced_http.specs.Serves.{Answered, Answers, IsTraced, IsUntraced, Serves, Serving}
-use Rattle.traced_http.specs.ServerSpans.{HasStarted, request_calls}
+use Rattle.traced_http.specs.ServerSpans.{HasStarted, HasStartedOrNone, request_calls}
 
 -- no attribute is an end, and none of more calls
 none-ends : (pairs : List Attribute) (more : List Call) → list_any is_end more ≡ false
@@ -67,9 +67,8 @@ module _ {S H P R : Type 0} (meaning : S → SamplerMeaning) (stream : R → Str
       (after : P) (route : Option (List ℕ)) (begun at : ℕ) (lent : Option HeldSpan)
       (left : LentSpan) (has_ended : Bool)
       → routes old.handler request route
-      → IfSome lent
-      (HasStarted (tracer_view meaning old.tracer) (stream old.rng)
-      (stream new.rng) route old.server request begun)
+      → HasStartedOrNone (tracer_view meaning old.tracer) (stream old.rng)
+      (stream new.rng) route old.server request begun lent
       → GoesOnIfAny lent left.span
       → Answered answers old.handler old.pass (lent_span lent) request response new.handler after
       left
@@ -95,9 +94,8 @@ module _ {S H P R : Type 0} (meaning : S → SamplerMeaning) (stream : R → Str
       }
     where
       with-span : (x y : Option HeldSpan) (held : HeldSpan) → y ≡ Some held
-          → IfSome x
-          (HasStarted (tracer_view meaning old.tracer) (stream old.rng)
-          (stream new.rng) route old.server request begun)
+          → HasStartedOrNone (tracer_view meaning old.tracer) (stream old.rng)
+          (stream new.rng) route old.server request begun x
           → GoesOnIfAny x y
           → EndsAs admits (ending_calls (ending_of response.status)) at held after new.pass
           → new.untraced ≡ old.untraced
@@ -120,6 +118,14 @@ module _ {S H P R : Type 0} (meaning : S → SamplerMeaning) (stream : R → Str
           → new.untraced ≡ (if b then old.untraced else counted_requests (old.untraced + 1))
           → IsTraced meaning stream routes answers admits old request lent response after left.span
           new
-          ⊎ IsUntraced meaning stream routes answers admits old after new
+          ⊎ IsUntraced meaning stream routes answers admits old request lent after new
       by true e u n = let h = e refl in inl (with-span lent left.span h.0 h.1 started goes h.2 n)
-      by false e u n = inr (record { untouched = u refl; untraced = n })
+      by false e u n =
+          inr (record {
+            route = route;
+            routed = r;
+            begun = begun;
+            lent_is = started;
+            untouched = u refl;
+            untraced = n;
+          })

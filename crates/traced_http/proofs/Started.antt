@@ -1,6 +1,7 @@
 -- A span that starts with attributes and no links, and one that ends with what came of its request.
-use Rattle.std.proofs.Common.{◌≡◌, ap, subst, ◌∙◌, ℕ, Bool, true, List, [], ◌++◌, map, Option, Some}
-use Rattle.std.proofs.Common.{Result, Ok, Err, IfOk}
+use Rattle.std.proofs.Common.{◌≡◌, refl, ap, subst, ◌∙◌, ℕ, Bool, true, List, [], ◌++◌, map, Option}
+use Rattle.std.proofs.Common.{Some}
+use Rattle.std.proofs.Common.{Result, Ok, Err, IfErr, IfOk}
 use Rattle.std.proofs.lemmas.List.{append-nil}
 use Rattle.rand_core.specs.Stream.{Stream}
 use Rattle.model_span.specs.Attributes.{Attribute}
@@ -14,7 +15,9 @@ use Rattle.trace_api.specs.Ends.{EndsAs}
 use Rattle.trace_api.specs.Request.{StartsWith}
 use Rattle.trace_api.specs.declared.pass.Ended.{Ended}
 use Rattle.trace_api.specs.declared.provider.StartFault.{StartFault}
-use Rattle.traced_http.specs.Starts.{StartsSpan}
+use Rattle.trace_api.specs.declared.provider.StartFault.TheVariants.{NoRandomness, OutOfMemory}
+use Rattle.traced_http.specs.Starts.{StartsIfAny, StartsNone, StartsSpan, refused, undrawn}
+use Rattle.traced_http.specs.Starts.{zeros}
 
 -- A span that starts with attributes has these, and spends the words of its identifiers.
 pub starts-span : (tracer : Tracer) (old new : Stream) (parent : Option Context) (name : List ℕ)
@@ -30,6 +33,30 @@ starts-span tracer old new parent name kind pairs at (Ok span) h spent = record 
   spent = spent;
 }
 starts-span tracer old new parent name kind pairs at (Err fault) h spent = tt
+
+-- Where a start is refused, it says why, and the words of the identifiers are spent.
+pub starts-none : (tracer : Tracer) (old new : Stream) (parent : Option Context) (name : List ℕ)
+    (kind : Kind) (pairs : List Attribute) (at : ℕ) (result : Result HeldSpan StartFault)
+    → StartsWith (started_span tracer (start_request parent name kind at) (words_of old))
+    (map set_attribute pairs ++ []) result
+    → Spends (ids_words (valid_parent parent)) old new
+    → IfErr result (λ fault. StartsNone tracer old new parent name kind at)
+starts-none tracer old new parent name kind pairs at (Ok span) h spent = tt
+starts-none tracer old new parent name kind pairs at (Err NoRandomness) h spent = zeros h spent
+starts-none tracer old new parent name kind pairs at (Err OutOfMemory) h spent =
+    refused h.0 h.1 h.2 spent
+
+-- Before the identifiers are drawn, the generator has given no word.
+pub starts_undrawn : (tracer : Tracer) (stream : Stream) (parent : Option Context) (name : List ℕ)
+    (kind : Kind) (at : ℕ) → StartsNone tracer stream stream parent name kind at
+starts_undrawn tracer stream parent name kind at = undrawn refl
+
+-- A span has started, also where the request is sent without it.
+pub starts_with : (tracer : Tracer) (old new : Stream) (parent : Option Context) (name : List ℕ)
+    (kind : Kind) (pairs : List Attribute) (at : ℕ) (span : HeldSpan)
+    → StartsSpan tracer old new parent name kind pairs at span
+    → (made : Option HeldSpan) × StartsIfAny tracer old new parent name kind pairs at made
+starts_with tracer old new parent name kind pairs at span h = (Some span, h)
 
 -- A span that ended with what came of a request ended with that, however it is said.
 pub ends-as : {P : Type 0} (admits : P → SpanData → Ended → P → Type 0) (has_ended : Bool)

@@ -1,6 +1,6 @@
 -- A request that was sent within its span.
-use Rattle.std.proofs.Common.{◌≡◌, refl, sym, ap, subst, ℕ, ◌+◌, List, [], ◌∷◌, map, Bool, true}
-use Rattle.std.proofs.Common.{false, if◌then◌else◌, Option, Some, None, IfSome, option_map, Result}
+use Rattle.std.proofs.Common.{◌≡◌, refl, sym, ap, subst, ◌∙◌, ℕ, ◌+◌, List, [], ◌∷◌, map, Bool}
+use Rattle.std.proofs.Common.{true, false, if◌then◌else◌, Option, Some, None, option_map, Result}
 use Rattle.std.proofs.Common.{inl, inr, ◌⊎◌}
 use Rattle.std.specs.List.{list_any}
 use Rattle.rand_core.specs.Stream.{Stream}
@@ -16,10 +16,10 @@ use Rattle.trace_api.specs.Starts.{tracer_view}
 use Rattle.trace_api.specs.declared.pass.Ended.{Ended}
 use Rattle.trace_context.specs.Carriers.{Field}
 use Rattle.http_client.specs.declared.fault.SendFault.{SendFault}
-use Rattle.traced_http.specs.Sends.{Asks, CarriesOwn, ClientWith, IsTraced, IsUntraced}
+use Rattle.traced_http.specs.Sends.{Asks, ClientWith, IsTraced, IsUntraced}
 use Rattle.traced_http.specs.Sends.{Sends, Starts}
-use Rattle.traced_http.specs.ClientSpans.{HasStarted, carried_by, closing_calls, request_calls}
-use Rattle.traced_http.specs.ClientSpans.{request_pairs}
+use Rattle.traced_http.specs.ClientSpans.{HasStarted, HasStartedOrNone, carried_by}
+use Rattle.traced_http.specs.ClientSpans.{closing_calls, request_calls, request_pairs}
 
 -- no attribute is an end
 none-ends : (pairs : List Attribute) → list_any is_end (map set_attribute pairs) ≡ false
@@ -43,22 +43,6 @@ module _ {S R D P : Type 0} (meaning : S → SamplerMeaning) (stream : R → Str
       → Starts meaning stream admits old parent method h.s new
   starts-is old new parent method address begun held h =
       record { begun = begun; started = h.started; spent = h.spent }
-
-  -- it carries that span's context
-  carries-own : (old new : ClientWith S R D) (parent : Option Context) (method : List ℕ)
-      (address : Address)
-      (begun : ℕ) (span : Option HeldSpan)
-      → IfSome span
-      (HasStarted (tracer_view meaning old.tracer) (stream old.rng)
-      (stream new.rng) parent method address begun)
-      → IfSome (option_map (λ (held : HeldSpan). held.context) span)
-      (CarriesOwn meaning stream admits old parent method new)
-  carries-own old new parent method address begun None h = tt
-  carries-own old new parent method address begun (Some held) h = (
-    h.s,
-    starts-is old new parent method address begun held h,
-    context-is h.s (request_calls method address) held h.held,
-  )
 
   -- it has ended
   traced-is : (old new : ClientWith S R D) (parent : Option Context) (method : List ℕ)
@@ -86,10 +70,10 @@ module _ {S R D P : Type 0} (meaning : S → SamplerMeaning) (stream : R → Str
   pub sends : (asks : Asks D) (old new : ClientWith S R D) (parent : Option Context)
       (method : List ℕ) (address : Address)
       (before after : P) (result : Result HttpReply SendFault) (begun at : ℕ)
-      (span : Option HeldSpan) (fields : List Field) (has_ended : Bool)
-      → IfSome span
-      (HasStarted (tracer_view meaning old.tracer) (stream old.rng)
-      (stream new.rng) parent method address begun)
+      (span made : Option HeldSpan) (fields : List Field) (has_ended : Bool)
+      → HasStartedOrNone (tracer_view meaning old.tracer) (stream old.rng)
+      (stream new.rng) parent method address begun made
+      → (span ≡ None) ⊎ (span ≡ made)
       → fields ≡ carried_by (option_map (λ (held : HeldSpan). held.context) span)
       → asks fields old.dial new.dial result
       → (has_ended ≡ true
@@ -99,9 +83,8 @@ module _ {S R D P : Type 0} (meaning : S → SamplerMeaning) (stream : R → Str
       → new.untraced ≡ (if has_ended then old.untraced else counted_requests (old.untraced + 1))
       → new.tracer ≡ old.tracer
       → Sends meaning stream admits asks old parent method address before result new after
-  sends asks old new parent method address before after result begun at span fields has_ended
-      started carried
-      asked ends none counted tracer =
+  sends asks old new parent method address before after result begun at span made fields has_ended
+      started sent_with carried asked ends none counted tracer =
       record {
         context = option_map (λ (held : HeldSpan). held.context) span;
         asked = subst (λ f. asks f old.dial new.dial result) carried asked;
@@ -109,21 +92,42 @@ module _ {S R D P : Type 0} (meaning : S → SamplerMeaning) (stream : R → Str
         tracer = tracer;
       }
     where
-      with-span : (x : Option HeldSpan) (held : HeldSpan) → x ≡ Some held
-          → IfSome x
-          (HasStarted (tracer_view meaning old.tracer) (stream old.rng)
+      context-of : Option HeldSpan → Option Context
+      context-of = option_map (λ (held : HeldSpan). held.context)
+
+      has-started : (x y : Option HeldSpan) (held : HeldSpan) → x ≡ Some held
+          → (x ≡ None) ⊎ (x ≡ y)
+          → HasStartedOrNone (tracer_view meaning old.tracer) (stream old.rng)
+          (stream new.rng) parent method address begun y
+          → HasStarted (tracer_view meaning old.tracer) (stream old.rng)
+          (stream new.rng) parent method address begun held
+      has-started x y held is (inl none) s = let no : Some held ≡ None = sym is ∙ none in cc
+      has-started x None held is (inr same) s = let no : Some held ≡ None = sym is ∙ same in cc
+      has-started x (Some y) held is (inr same) s =
+          let one : y ≡ held = cc in
+          subst (HasStarted (tracer_view meaning old.tracer) (stream old.rng)
           (stream new.rng) parent method address begun)
+          one s
+
+      with-span : (x : Option HeldSpan) (held : HeldSpan) → x ≡ Some held
+          → (x ≡ None) ⊎ (x ≡ made)
           → EndsAs admits (closing_calls result) at held before after
           → new.untraced ≡ old.untraced
           → IsTraced meaning stream admits old parent method address
-          (option_map (λ (held : HeldSpan). held.context) x) before result new after
-      with-span None held h s e n = cc
-      with-span (Some y) held h s e n =
+          (context-of x) before result new after
+      with-span None held h w e n = cc
+      with-span (Some y) held h w e n =
           let same : y ≡ held = cc in
-          traced-is old new parent method address before after result begun at y s
+          traced-is old new parent method address before after result begun at y
+          (has-started (Some y) made y refl w started)
           (subst (λ z. EndsAs admits (closing_calls result) at z before after)
           (sym same) e)
           n
+
+      carries : (x y : Option HeldSpan) → (x ≡ None) ⊎ (x ≡ y)
+          → (context-of x ≡ None) ⊎ (context-of x ≡ context-of y)
+      carries x y (inl none) = inl (ap context-of none)
+      carries x y (inr same) = inr (ap context-of same)
 
       by : (b : Bool)
           → (b ≡ true
@@ -133,12 +137,15 @@ module _ {S R D P : Type 0} (meaning : S → SamplerMeaning) (stream : R → Str
           → new.untraced ≡ (if b then old.untraced else counted_requests (old.untraced + 1))
           → IsTraced meaning stream admits old parent method address
           (option_map (λ (held : HeldSpan). held.context) span) before result new after
-          ⊎ IsUntraced meaning stream admits old parent method
+          ⊎ IsUntraced meaning stream admits old parent method address
           (option_map (λ (held : HeldSpan). held.context) span) before new after
-      by true e u n = let h = e refl in inl (with-span span h.0 h.1 started h.2 n)
+      by true e u n = let h = e refl in inl (with-span span h.0 h.1 sent_with h.2 n)
       by false e u n =
           inr (record {
-            carried = carries-own old new parent method address begun span started;
+            begun = begun;
+            span = made;
+            started = started;
+            carried = carries span made sent_with;
             untouched = u refl;
             untraced = n;
           })

@@ -16,7 +16,7 @@ use Rattle.trace_context.specs.Carriers.{Field, outgoing}
 use Rattle.http_client.specs.declared.fault.SendFault.{SendFault}
 use Rattle.http_client.specs.declared.fault.SendFault.TheVariants.{NoReply, NotSent}
 use Rattle.http_client.specs.Faults.{error_type}
-use Rattle.traced_http.specs.Starts.{StartsSpan, text_pairs}
+use Rattle.traced_http.specs.Starts.{StartsIfAny, StartsSpan, text_pairs}
 
 -- where a request goes, as one text, without the secrets of its query (RFC 3986, section 3;
 -- url.full)
@@ -46,6 +46,12 @@ abbrev pub HasStarted : Tracer → Stream → Stream → Option Context → List
     → Type 0
 HasStarted tracer old new parent method address at =
     StartsSpan tracer old new parent (method_name method) client (request_pairs method address) at
+
+-- the span that has started for the request, or none, since it could not start
+abbrev pub HasStartedOrNone : Tracer → Stream → Stream → Option Context → List ℕ → Address → ℕ
+    → Option HeldSpan → Type 0
+HasStartedOrNone tracer old new parent method address at =
+    StartsIfAny tracer old new parent (method_name method) client (request_pairs method address) at
 
 -- the fields that carry the context of a span, if there is one
 abbrev pub carried_by : Option Context → List Field

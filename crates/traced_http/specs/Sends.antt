@@ -1,12 +1,12 @@
 -- A request within a span. (Semantic Conventions, HTTP spans, HTTP client; W3C Trace Context)
-use Rattle.std.specs.Prelude.{◌≡◌, ℕ, ◌+◌, ◌⊎◌, List, [], ◌∷◌, ◌++◌, Option, Some}
-use Rattle.std.specs.Prelude.{IfSome, Result}
+use Rattle.std.specs.Prelude.{◌≡◌, ℕ, ◌+◌, ◌⊎◌, List, [], ◌∷◌, ◌++◌, Option, Some, None}
+use Rattle.std.specs.Prelude.{Result, option_map}
 use Rattle.rand_core.specs.Stream.{Stream}
 use Rattle.trace_api.specs.Counts.{counted_requests}
 use Rattle.trace_api.specs.Ends.{Handed}
 use Rattle.model_span.specs.Sampling.{SamplerMeaning, valid_parent}
 use Rattle.model_span.specs.Spans.{Context, SpanData, end}
-use Rattle.model_span.specs.Starts.{StartedSpan, ids_words, started_span}
+use Rattle.model_span.specs.Starts.{HeldSpan, StartedSpan, ids_words, started_span}
 use Rattle.otlp_http.specs.Address.{Address}
 use Rattle.otlp_http.specs.Replies.{HttpReply}
 use Rattle.otlp_ids.specs.WordStream.{Spends, words_of}
@@ -14,7 +14,8 @@ use Rattle.trace_api.specs.Starts.{TracerWith, tracer_view}
 use Rattle.trace_api.specs.declared.pass.Ended.{Ended}
 use Rattle.trace_context.specs.Carriers.{Field}
 use Rattle.http_client.specs.declared.fault.SendFault.{SendFault}
-use Rattle.traced_http.specs.ClientSpans.{carried_by, client_start, closing_calls, request_calls}
+use Rattle.traced_http.specs.ClientSpans.{HasStartedOrNone, carried_by, client_start}
+use Rattle.traced_http.specs.ClientSpans.{closing_calls, request_calls}
 
 -- what requests are sent with
 pub record ClientWith (S R D : Type 0) : Type 0 where
@@ -41,12 +42,6 @@ module _ {S R D P : Type 0} (meaning : S → SamplerMeaning) (stream : R → Str
         (words_of (stream old.rng)) ≡ Some s
     pub spent : Spends (ids_words (valid_parent parent)) (stream old.rng) (stream new.rng)
 
-  -- the request carries the context of a span that has started for it
-  abbrev pub CarriesOwn : ClientWith S R D → Option Context → List ℕ → ClientWith S R D → Context
-      → Type 0
-  CarriesOwn old parent method new context =
-      (s : StartedSpan) × Starts old parent method s new × (context ≡ s.start.context)
-
   -- The request has a span, whose context it carries. It is handed to the pass, with what came of
   -- the request.
   pub record IsTraced (old : ClientWith S R D) (parent : Option Context) (method : List ℕ)
@@ -62,12 +57,17 @@ module _ {S R D P : Type 0} (meaning : S → SamplerMeaning) (stream : R → Str
         before after
     pub untraced : new.untraced ≡ old.untraced
 
-  -- No span of the request was handed over, and the request is counted. It carries no context, or,
-  -- where memory was refused at the end, that of its span.
+  -- No span of the request was handed over, and the request is counted. It carries no context: no
+  -- span could start for it, or memory for the fields that carry the span's was refused. Or it
+  -- carries that of the span that has started, for whose end memory was refused.
   pub record IsUntraced (old : ClientWith S R D) (parent : Option Context) (method : List ℕ)
-      (context : Option Context) (before : P) (new : ClientWith S R D) (after : P)
-      : Type 0 where
-    pub carried : IfSome context (CarriesOwn old parent method new)
+      (address : Address) (context : Option Context) (before : P) (new : ClientWith S R D)
+      (after : P) : Type 0 where
+    pub begun : ℕ
+    pub span : Option HeldSpan
+    pub started : HasStartedOrNone (tracer_view meaning old.tracer) (stream old.rng)
+        (stream new.rng) parent method address begun span
+    pub carried : (context ≡ None) ⊎ (context ≡ option_map (λ held. held.context) span)
     pub untouched : after ≡ before
     pub untraced : new.untraced ≡ counted_requests (old.untraced + 1)
 
@@ -79,5 +79,5 @@ module _ {S R D P : Type 0} (meaning : S → SamplerMeaning) (stream : R → Str
     pub context : Option Context
     pub asked : asks (carried_by context) old.dial new.dial result
     pub traced : IsTraced old parent method address context before result new after
-        ⊎ IsUntraced old parent method context before new after
+        ⊎ IsUntraced old parent method address context before new after
     pub tracer : new.tracer ≡ old.tracer

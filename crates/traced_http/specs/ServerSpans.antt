@@ -9,7 +9,7 @@ use Rattle.model_span.specs.Starts.{HeldSpan, StartRequest, Tracer, start_reques
 use Rattle.traced_http.specs.Attributes.{Server, request_pairs}
 use Rattle.traced_http.specs.Carried.{carried}
 use Rattle.traced_http.specs.Methods.{span_name}
-use Rattle.traced_http.specs.Starts.{StartsSpan}
+use Rattle.traced_http.specs.Starts.{StartsIfAny, StartsSpan}
 
 -- the start that a request asks for: a child of what it carries
 abbrev pub server_start : Option (List ℕ) → Request (List ℕ) → ℕ → StartRequest
@@ -26,5 +26,13 @@ abbrev pub HasStarted : Tracer → Stream → Stream → Option (List ℕ) → S
     → HeldSpan → Type 0
 HasStarted tracer old new route host request at =
     StartsSpan tracer old new (carried (head_of request).headers)
+    (span_name (head_of request).method route) server
+    (request_pairs (head_of request) route host) at
+
+-- the span that has started for the request, or none, since it could not start
+abbrev pub HasStartedOrNone : Tracer → Stream → Stream → Option (List ℕ) → Server
+    → Request (List ℕ) → ℕ → Option HeldSpan → Type 0
+HasStartedOrNone tracer old new route host request at =
+    StartsIfAny tracer old new (carried (head_of request).headers)
     (span_name (head_of request).method route) server
     (request_pairs (head_of request) route host) at

@@ -20,7 +20,7 @@ use Rattle.trace_api.specs.Ends.{Handed}
 use Rattle.traced_http.specs.Attributes.{Server, ending_of, server_view}
 use Rattle.traced_http.specs.Carried.{carried}
 use Rattle.traced_http.specs.RequestSpans.{LentSpan, counted, lent_span}
-use Rattle.traced_http.specs.ServerSpans.{request_calls, server_start}
+use Rattle.traced_http.specs.ServerSpans.{HasStartedOrNone, request_calls, server_start}
 
 -- what requests are answered with
 pub record Serving (S H P R : Type 0) : Type 0 where
@@ -47,8 +47,7 @@ serving s = record {
 }
 
 -- What a handler says of its answers: being lent the request's span, it gives this response, or
--- none
--- for lack of memory, and leaves that span.
+-- none for lack of memory, and leaves that span.
 abbrev pub Answers : Type 0 → Type 0 → Type 1
 Answers H P = H → P → LentSpan → Request (List ℕ) → Option Response → H → P → LentSpan → Type 0
 
@@ -64,9 +63,8 @@ module _ {S H P R : Type 0} (meaning : S → SamplerMeaning) (stream : R → Str
     (routes : H → Request (List ℕ) → Option (List ℕ) → Type 0) (answers : Answers H P)
     (admits : P → SpanData → Ended → P → Type 0) where
   -- The request has a span, a child of what it carried. The handler was lent it, with the
-  -- attributes
-  -- of the request, and made more calls on it, none of which is an end. Then it was handed to the
-  -- pass that the handler left, with these and what the response says.
+  -- attributes of the request, and made more calls on it, none of which is an end. Then it was
+  -- handed to the pass that the handler left, with these and what the response says.
   pub record IsTraced (old : Serving S H P R) (request : Request (List ℕ)) (lent : Option HeldSpan)
       (response : Response) (after : P) (left : Option HeldSpan) (new : Serving S H P R)
       : Type 0 where
@@ -88,8 +86,15 @@ module _ {S H P R : Type 0} (meaning : S → SamplerMeaning) (stream : R → Str
         ++ ending_calls (ending_of response.status) ++ end ended ∷ []) after new.pass
     pub untraced : new.untraced ≡ old.untraced
 
-  -- the request has no span, and is counted
-  pub record IsUntraced (old : Serving S H P R) (after : P) (new : Serving S H P R) : Type 0 where
+  -- No span of the request was handed over, and the request is counted. The handler was lent none,
+  -- since none could start, or the one that has started, for whose end memory was refused.
+  pub record IsUntraced (old : Serving S H P R) (request : Request (List ℕ))
+      (lent : Option HeldSpan) (after : P) (new : Serving S H P R) : Type 0 where
+    pub route : Option (List ℕ)
+    pub routed : routes old.handler request route
+    pub begun : ℕ
+    pub lent_is : HasStartedOrNone (tracer_view meaning old.tracer) (stream old.rng)
+        (stream new.rng) route old.server request begun lent
     pub untouched : new.pass ≡ after
     pub untraced : new.untraced ≡ counted_requests (old.untraced + 1)
 
@@ -102,7 +107,8 @@ module _ {S H P R : Type 0} (meaning : S → SamplerMeaning) (stream : R → Str
     pub left : LentSpan
     pub answered : Answered answers old.handler old.pass (lent_span lent) request response
         new.handler after left
-    pub traced : IsTraced old request lent response after left.span new ⊎ IsUntraced old after new
+    pub traced : IsTraced old request lent response after left.span new
+        ⊎ IsUntraced old request lent after new
     pub left_out : new.left_out ≡ counted (old.left_out + left.left_out)
     pub tracer : new.tracer ≡ old.tracer
     pub server : new.server ≡ old.server

@@ -1,6 +1,6 @@
 //! The span of a request, which servers and clients start and end in the same way.
 
-ghost use Rattle.std.specs.Prelude.{◌≡◌, ◌++◌, IfOk, OnOk, Some, false, true};
+ghost use Rattle.std.specs.Prelude.{◌≡◌, ◌++◌, IfErr, IfOk, OnOk, Some, false, true};
 ghost use Rattle.std.specs.Option.{option_copied};
 ghost use Rattle.model_span.specs.Starts.{HeldSpan};
 ghost use Rattle.otlp_ids.specs.SpanContext.{parent_view};
@@ -9,7 +9,7 @@ ghost use Rattle.trace_api.specs.Endings.{ending_calls, ending_view};
 ghost use Rattle.trace_api.specs.Ends.{EndsAs};
 ghost use Rattle.trace_api.specs.Lent.{lent_pairs};
 ghost use Rattle.trace_api.specs.Starts.{tracer_view};
-ghost use Rattle.traced_http.specs.Starts.{StartsSpan, text_pairs};
+ghost use Rattle.traced_http.specs.Starts.{StartsNone, StartsSpan, text_pairs};
 
 use otlp_ids::{OutOfMemory, SpanContext};
 use otlp_sampler::Sampler;
@@ -60,9 +60,12 @@ pub(crate) fn start_with<S: Sampler, R: Rng>(
     attributes: &[KeyValue<'_>],
     at: u64,
 ) -> Result<Span, StartFault>
-    ensures { IfOk result (StartsSpan (tracer_view S.meaning tracer.now)
+    ensures started { IfOk result (StartsSpan (tracer_view S.meaning tracer.now)
         (R.stream rng.old) (R.stream rng.new) (parent_view parent.entry) named.entry.name.now
         (kind_view named.entry.kind) (lent_pairs attributes.now) at) }
+    ensures none { IfErr result (λ _. StartsNone (tracer_view S.meaning tracer.now)
+        (R.stream rng.old) (R.stream rng.new) (parent_view parent.entry) named.entry.name.now
+        (kind_view named.entry.kind) at) }
 {
     let asked = SpanRequest {
         name: named.name,

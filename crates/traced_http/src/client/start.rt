@@ -1,13 +1,15 @@
 //! How a request begins: its span, and the fields that carry the span's context.
 
-ghost use Rattle.std.specs.Prelude.{◌≡◌, IfOk, IfSome, option_map, string_bytes};
+ghost use Rattle.std.specs.Prelude.{◌≡◌, ◌⊎◌, IfErr, IfOk, None, Option, option_map};
+ghost use Rattle.std.specs.Prelude.{string_bytes};
+ghost use Rattle.model_span.specs.Starts.{HeldSpan};
 ghost use Rattle.otlp_ids.specs.SpanContext.{context_view, parent_view};
 ghost use Rattle.trace_api.specs.Lent.{lent_pairs};
 ghost use Rattle.trace_api.specs.Starts.{tracer_view};
 ghost use Rattle.trace_context.specs.Carriers.{outgoing};
 ghost use Rattle.trace_context.specs.Pairs.{fields_view};
 ghost use Rattle.traced_http.specs.ClientSpans as spec;
-ghost use Rattle.traced_http.specs.ClientSpans.{HasStarted, carried_by};
+ghost use Rattle.traced_http.specs.ClientSpans.{HasStarted, HasStartedOrNone, carried_by};
 
 use crate::method::{method_name, method_value, original_method};
 use crate::query::push_path;
@@ -85,6 +87,7 @@ fn request_pairs<'a>(
 /// # Errors
 ///
 /// `NoRandomness` as of `Tracer::start`, `OutOfMemory` where memory was refused.
+#[tactic(auto, using(crate::proofs::Started::starts_undrawn))]
 fn start<S: Sampler, R: Rng>(
     alloc: Global,
     tracer: &Tracer<'_, S>,
@@ -94,9 +97,12 @@ fn start<S: Sampler, R: Rng>(
     target: &Target,
     at: u64,
 ) -> Result<Span, StartFault>
-    ensures { IfOk result (HasStarted (tracer_view S.meaning tracer.now)
+    ensures started { IfOk result (HasStarted (tracer_view S.meaning tracer.now)
         (R.stream rng.old) (R.stream rng.new) (parent_view parent.entry) method.now target.now
         at) }
+    ensures none { IfErr result (λ _. HasStartedOrNone (tracer_view S.meaning tracer.now)
+        (R.stream rng.old) (R.stream rng.new) (parent_view parent.entry) method.now target.now
+        at None) }
 {
     let url = full_url(alloc, target)?;
     let attributes = request_pairs(alloc, method, target, &url)?;
@@ -122,6 +128,7 @@ fn fields_of(alloc: Global, context: &SpanContext) -> Result<Vec<Field>, OutOfMe
 /// # Errors
 ///
 /// As of [`start`].
+#[tactic(auto, using(crate::proofs::Started::starts_with))]
 fn start_carried<S: Sampler, R: Rng>(
     alloc: Global,
     tracer: &Tracer<'_, S>,
@@ -135,6 +142,9 @@ fn start_carried<S: Sampler, R: Rng>(
         (R.stream rng.old) (R.stream rng.new) (parent_view parent.entry) method.now target.now
         at made.0) }
     ensures carried { IfOk result (λ made. fields_view made.1.items ≡ outgoing made.0.context) }
+    ensures none { IfErr result (λ _. (made : Option HeldSpan) × HasStartedOrNone
+        (tracer_view S.meaning tracer.now) (R.stream rng.old) (R.stream rng.new)
+        (parent_view parent.entry) method.now target.now at made) }
 {
     let span = start(alloc, tracer, rng, parent, method, target, at)?;
     let fields = fields_of(alloc, span.context())?;
@@ -153,9 +163,9 @@ pub(crate) fn begin<S: Sampler, R: Rng>(
     target: &Target,
     at: u64,
 ) -> Begun
-    ensures started { IfSome result.span (HasStarted (tracer_view S.meaning tracer.now)
+    ensures started { (made : Option HeldSpan) × HasStartedOrNone (tracer_view S.meaning tracer.now)
         (R.stream rng.old) (R.stream rng.new) (parent_view parent.entry) method.now target.now
-        at) }
+        at made × ((result.span ≡ None) ⊎ (result.span ≡ made)) }
     ensures carried { fields_view result.fields.items
         ≡ carried_by (option_map (λ held. held.context) result.span) }
 {

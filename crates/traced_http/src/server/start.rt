@@ -1,10 +1,10 @@
 //! How the span of a request starts.
 
-ghost use Rattle.std.specs.Prelude.{◌≡◌, IfOk, IfSome};
+ghost use Rattle.std.specs.Prelude.{◌≡◌, IfErr, IfOk, None};
 ghost use Rattle.std.specs.Option.{option_copied};
 ghost use Rattle.trace_api.specs.Starts.{tracer_view};
 ghost use Rattle.traced_http.specs.Attributes.{server_view};
-ghost use Rattle.traced_http.specs.ServerSpans.{HasStarted};
+ghost use Rattle.traced_http.specs.ServerSpans.{HasStarted, HasStartedOrNone};
 
 use crate::server::attributes::{request_pairs, shown_query};
 use crate::server::carrier::caller_of;
@@ -48,6 +48,7 @@ impl<'a, S: Sampler, R: Rng, C> Tracing<'a, S, R, C> {
     /// # Errors
     ///
     /// `NoRandomness` as of `Tracer::start`, `OutOfMemory` where memory was refused.
+    #[tactic(auto, using(crate::proofs::Started::starts_undrawn))]
     fn start(
         &mut self,
         alloc: Global,
@@ -58,6 +59,9 @@ impl<'a, S: Sampler, R: Rng, C> Tracing<'a, S, R, C> {
         ensures started { IfOk result (HasStarted (tracer_view S.meaning self.old.tracer)
             (R.stream self.old.rng) (R.stream self.new.rng) (option_copied route.entry)
             (server_view self.old.server) request.now at) }
+        ensures none { IfErr result (λ _. HasStartedOrNone (tracer_view S.meaning self.old.tracer)
+            (R.stream self.old.rng) (R.stream self.new.rng) (option_copied route.entry)
+            (server_view self.old.server) request.now at None) }
         ensures tracer { self.new.tracer ≡ self.old.tracer }
         ensures server { self.new.server ≡ self.old.server }
     {
@@ -89,9 +93,9 @@ impl<'a, S: Sampler, R: Rng, C> Tracing<'a, S, R, C> {
         request: &Request<Bytes>,
         at: u64,
     ) -> Option<Span>
-        ensures started { IfSome result (HasStarted (tracer_view S.meaning self.old.tracer)
+        ensures started { HasStartedOrNone (tracer_view S.meaning self.old.tracer)
             (R.stream self.old.rng) (R.stream self.new.rng) (option_copied route.entry)
-            (server_view self.old.server) request.now at) }
+            (server_view self.old.server) request.now at result }
         ensures tracer { self.new.tracer ≡ self.old.tracer }
         ensures server { self.new.server ≡ self.old.server }
     {
