@@ -1,5 +1,5 @@
 -- How long a peer may wait. (profile)
-use Rattle.std.specs.Prelude.{ℕ, ◌+◌, ◌≤◌}
+use Rattle.std.specs.Prelude.{ℕ, ◌+◌, ◌≤◌, Bool, true, false}
 use Rattle.trace_view.specs.declared.clock.Due.{Due}
 use Rattle.trace_view.specs.declared.clock.Due.TheVariants.{Close, ShutDown}
 use Rattle.trace_view.specs.declared.clock.PeerClock.{PeerClock}
@@ -15,6 +15,13 @@ time_at times Receiving = times.request_ms
 time_at times Answering = times.answer_ms
 time_at times Discarding = times.discard_ms
 time_at times Closing = times.close_ms
+
+-- an answer goes out there, or a request arrives, after which one before may still be answered
+-- (RFC 9112, section 9.3.2)
+abbrev pub is_of_requests : Stage → Bool
+is_of_requests Receiving = true
+is_of_requests Answering = true
+is_of_requests _ = false
 
 -- the peer is over its time: it has been at its stage for as long as it may, or for longer
 abbrev pub IsOver : StageTimes → PeerClock → ℕ → Type 0

@@ -1,7 +1,7 @@
 //! Since when a peer waits, and when it is over its time.
 ghost use Rattle.std.specs.Prelude.{◌≡◌, ◌≢◌, ◌⊎◌, ◌↔◌, IsTrue, false, true};
-ghost use Rattle.trace_view.specs.Clocks.{IsOver, due_at, time_at};
-ghost use Rattle.trace_view.specs.declared.clock.Stage.TheVariants.{Answering, Idle};
+ghost use Rattle.trace_view.specs.Clocks.{IsOver, due_at, is_of_requests, time_at};
+ghost use Rattle.trace_view.specs.declared.clock.Stage.TheVariants.{Idle};
 
 /// What a connection is at.
 #[derive(Clone, Copy, Debug, PartialEq, Eq)]
@@ -91,18 +91,19 @@ impl PeerClock {
     }
 
     /// Notes what is seen of the peer. Its time begins anew where it is at another stage, and where
-    /// it has taken bytes of its answer: a client that reads isn't cut off, and the time without a
-    /// request isn't counted as a request's.
+    /// it has taken bytes of an answer while that goes out, or while a further request arrives: a
+    /// client that reads isn't cut off, the time without a request isn't counted as a request's, and
+    /// that of the request before isn't either.
     pub fn note(&mut self, sight: Sight)
         ensures stage { self.new.stage ≡ sight.stage }
         ensures moved { sight.stage ≢ self.old.stage → self.new.since_ms ≡ sight.at_ms }
-        ensures taken { sight.stage ≡ Answering → sight.took ≡ true
+        ensures taken { is_of_requests sight.stage ≡ true → sight.took ≡ true
             → self.new.since_ms ≡ sight.at_ms }
         ensures kept { sight.stage ≡ self.old.stage
-            → (sight.stage ≢ Answering) ⊎ (sight.took ≡ false)
+            → (is_of_requests sight.stage ≡ false) ⊎ (sight.took ≡ false)
             → self.new.since_ms ≡ self.old.since_ms }
     {
-        let takes = sight.took && matches!(sight.stage, Stage::Answering);
+        let takes = sight.took && matches!(sight.stage, Stage::Receiving | Stage::Answering);
         if takes || sight.stage != self.stage {
             self.since_ms = sight.at_ms;
         }

@@ -193,24 +193,20 @@ where
     }
 
     /// Gives a peer its turn.
-    pub(crate) fn serve<S: Service<Pieces = P>>(
-        &mut self,
-        service: &mut S,
-        key: usize,
-        now_ms: u64,
-    ) {
+    pub(crate) fn serve<S: Service<Pieces = P>>(&mut self, service: &mut S, key: usize) {
         let room = usize::try_from(self.pending.room()).unwrap_or(usize::MAX);
+        let rt = self.rt;
         let Some(peer) = self.peers.get_mut(key) else {
             return;
         };
         let before = peer.held();
-        let turn = peer.serve(service, room, now_ms);
+        let turn = peer.serve(service, room, &rt);
         let after = peer.held();
         self.pending.change(before, after);
         let goes_on = match turn {
             Turn::Waits => true,
             Turn::Again => self.watch(key),
-            Turn::ShutsDown => self.shut_down(key, now_ms) && self.watch(key),
+            Turn::ShutsDown => self.shut_down(key, now_ms(&rt)) && self.watch(key),
             Turn::Ends => false,
         };
         if !goes_on {

@@ -4,9 +4,11 @@ ghost use Rattle.http_connection.specs.Connections.{held_of, place_of};
 ghost use Rattle.trace_view.specs.Serving.{IsSeen, Serves, connection_of};
 ghost use Rattle.trace_view.specs.Stages.{stage_at};
 
+use crate::crowd::now_ms;
 use crate::{Due, PeerClock, Sight, Stage, StageTimes};
 use http_connection::{Connection, Phase, Pieces, Service};
 use std::io::{self, ErrorKind, Read, Write};
+use std::time::Clock;
 
 /// How often a peer is read or written before others have their turn. Of a long answer only one
 /// piece is made in a turn. (profile)
@@ -172,7 +174,7 @@ impl<T: Read + Write, P> Peer<T, P> {
 
 impl<T: Read + Write, P: Pieces + Drop> Peer<T, P> {
     /// Writes and reads once, where the connection asks for it. `None` where it can go on at once.
-    fn go_on(&mut self, now_ms: u64) -> Option<Turn>
+    fn go_on(&mut self, at_ms: u64) -> Option<Turn>
         ensures seen { result ≢ Some Turn.Ends → IsSeen self.new }
         ensures place { place_of (connection_of self.new) ≡ place_of (connection_of self.old) }
         ensures limits { (connection_of self.new).limits ≡ (connection_of self.old).limits }
@@ -180,7 +182,7 @@ impl<T: Read + Write, P: Pieces + Drop> Peer<T, P> {
         let Ok(moved) = self.move_bytes() else {
             return Some(Turn::Ends);
         };
-        self.note(moved.wrote, now_ms);
+        self.note(moved.wrote, at_ms);
         match self.connection.phase() {
             Phase::Done => Some(Turn::Ends),
             Phase::Closing if !self.is_shut => Some(Turn::ShutsDown),
@@ -190,11 +192,11 @@ impl<T: Read + Write, P: Pieces + Drop> Peer<T, P> {
     }
 
     /// Answers what has come, and then writes and reads once. `None` where it can go on at once.
-    fn step<S: Service<Pieces = P>>(
+    fn step<S: Service<Pieces = P>, R: Clock>(
         &mut self,
         service: &mut S,
         room: usize,
-        now_ms: u64,
+        rt: &R,
     ) -> Option<Turn>
         ensures seen { result ≢ Some Turn.Ends → IsSeen self.new }
         ensures served { Serves S.answers P.writes service.old self.old service.new self.new }
@@ -202,9 +204,11 @@ impl<T: Read + Write, P: Pieces + Drop> Peer<T, P> {
     {
         let makes_piece = self.connection.wants_advance();
         self.connection.advance(service, room);
-        // While a piece is made, the client isn't waited for. One that takes nothing gets no more.
-        self.note(makes_piece, now_ms);
-        let turn = self.go_on(now_ms);
+        // An answer may have taken long, and what comes after it has its time from then on. While a
+        // piece is made, the client isn't waited for. One that takes nothing gets no more.
+        let at_ms = now_ms(rt);
+        self.note(makes_piece, at_ms);
+        let turn = self.go_on(at_ms);
         if makes_piece && turn.is_none() {
             return Some(Turn::Again);
         }
@@ -214,23 +218,23 @@ impl<T: Read + Write, P: Pieces + Drop> Peer<T, P> {
     /// Reads, answers and writes, until the stream would have to be waited for, or others are to
     /// have a turn. Each request that is whole is answered by the service, in order, and no other
     /// is (see [`Connection::advance`]). As many bytes as `room` says may still be pending beside
-    /// what the connection holds. The moment is in milliseconds.
-    pub fn serve<S: Service<Pieces = P>>(
+    /// what the connection holds. The runtime's clock is read after each answer.
+    pub fn serve<S: Service<Pieces = P>, R: Clock>(
         &mut self,
         service: &mut S,
         room: usize,
-        now_ms: u64,
+        rt: &R,
     ) -> Turn
         ensures seen { result ≢ Turn.Ends → IsSeen self.new }
         ensures served { Serves S.answers P.writes service.old self.old service.new self.new }
         ensures limits { (connection_of self.new).limits ≡ (connection_of self.old).limits }
     {
         for _ in 0..STEPS {
-            if let Some(turn) = self.step(service, room, now_ms) {
+            if let Some(turn) = self.step(service, room, rt) {
                 return turn;
             }
         }
-        self.note(false, now_ms);
+        self.note(false, now_ms(rt));
         Turn::Again
     }
 }

@@ -69,13 +69,13 @@ where
     }
 
     /// Serves the peers that were reported.
-    fn serve_reported<S: Service<Pieces = P>>(&mut self, service: &mut S, now_ms: u64) {
+    fn serve_reported<S: Service<Pieces = P>>(&mut self, service: &mut S) {
         for event in self.events.iter() {
             let token = event.token();
             if token == LISTENER {
                 self.crowd.accepting = self.crowd.accepting.reported();
             } else {
-                self.crowd.serve(service, token.0, now_ms);
+                self.crowd.serve(service, token.0);
             }
         }
     }
@@ -91,9 +91,10 @@ where
         if self.crowd.poll.poll(&mut self.events, Some(wait)).is_err() {
             return Err(End::Wait);
         }
-        // What comes while the peers have their turns is seen before a peer is closed for it.
+        // A peer is closed for what was seen until now: what comes while others have their turns is
+        // seen first.
         let at_ms = now_ms(&self.crowd.rt);
-        self.serve_reported(service, at_ms);
+        self.serve_reported(service);
         let accepted = if self.crowd.accepting.is_due(at_ms) {
             self.crowd.accept(at_ms)
         } else {
