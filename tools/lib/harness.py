@@ -7,7 +7,8 @@ import sys
 
 TOP = pathlib.Path(__file__).resolve().parents[2]
 TOOL = pathlib.Path(sys.argv[0]).name
-PATIENCE = 300  # seconds after which a run is given up
+PATIENCE = 1_200  # seconds after which a run is given up: the machine may be slow
+TRIES = 5  # how often at most a row is tried that a slow moment of the machine can spoil
 MOST_SHOWN = 40  # rows whose faults are printed
 LANES = 24  # runs side by side, most of which wait
 FULL = "/dev/full"
@@ -24,6 +25,16 @@ LIMITED = (
 
 class Wrong(Exception):
     """What is not as it should be, where no two values show it."""
+
+
+# What may come out of a row where the program does something else than it should: a connection that
+# ends, a reply that can't be read.
+FAULTS = (Wrong, OSError, ValueError, LookupError, subprocess.SubprocessError)
+
+
+def said_of(error):
+    """What is said of one of these."""
+    return f"{type(error).__name__}: {error}"
 
 
 def program_of(words, crate, arguments=""):
@@ -77,6 +88,30 @@ def compared(rows):
         yield name, [] if found == wanted else [difference(found, wanted)]
 
 
+def guarded(name, rows):
+    """Rows of a name and its faults, and one more by this name where a fault comes out of them: the
+    rows of others go on after it."""
+    try:
+        yield from rows
+    except FAULTS as error:
+        yield name, [said_of(error), "so it has no more rows"]
+
+
+def tried(name, faults_of):
+    """A row of this name, for what a slow moment of the machine can spoil: a client that has to be
+    quick, say. It is tried some times, until a try has no faults, and those of the last one are
+    given. So a fault of the program's own is found in each. What is tried again is printed."""
+    for left in reversed(range(TRIES)):
+        try:
+            faults = [*faults_of()]
+        except FAULTS as error:
+            faults = [said_of(error)]
+        if not (faults and left):
+            return name, faults
+        print(f"{TOOL}: {name} is tried again: {'; '.join(faults)[:300]}", flush=True)
+    raise ValueError("nothing is tried")
+
+
 def report(rows, good="passed", bad="failed"):
     """Prints the faults of rows of a name and its faults, and the last line. Answers the tool's
     status."""
@@ -86,8 +121,8 @@ def report(rows, good="passed", bad="failed"):
             passed, failed = passed + (not faults), failed + bool(faults)
             if faults and failed <= MOST_SHOWN:
                 print(f"{TOOL}: {name}: {'; '.join(faults)}")
-    except Wrong as error:
+    except FAULTS as error:
         failed += 1
-        print(f"{TOOL}: {error}, and so no more rows")
+        print(f"{TOOL}: {said_of(error)}, and so no more rows")
     print(f"{TOOL}: {passed} {good}, {failed} {bad}")
     return 0 if passed and not failed else 1

@@ -9,7 +9,7 @@ import threading
 import time
 
 HOST = "127.0.0.1"
-PATIENCE = 120  # seconds after which an end of a connection gives up
+PATIENCE = 300  # seconds after which an end of a connection gives up: the machine may be slow
 DRIP = 0.05  # seconds from one byte that drips to the next
 POST = "POST /v1/traces"
 TYPE = "Content-Type: application/x-protobuf\r\n"

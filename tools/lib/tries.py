@@ -16,7 +16,7 @@ OWN = re.compile(
 )
 
 
-PATIENCE = 10  # seconds in which a run ends that is asked to
+PATIENCE = 60  # seconds in which a run ends that is asked to: the machine may be slow
 
 
 def is_ours(line):

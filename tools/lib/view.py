@@ -13,15 +13,19 @@ from lib.http import HOST, TYPE
 from lib.wire import fixed64, number, piece
 
 TICKS = os.sysconf("SC_CLK_TCK")
-PATIENCE = 60  # seconds after which a link gives up
+PATIENCE = 300  # seconds after which a link gives up: the machine may be slow
+# What connections have where no row asks for less, so that none ends since the machine is slow.
+LONG = {"--idle-seconds": "3600", "--request-seconds": "3600"}
 TRACE = 0x0AF7651916CD43DD8448EB211C80319C
 PATH = f"/trace/{TRACE:032x}"
 
 
 class View:
-    """A run of the program, at a port that was free."""
+    """A run of the program, at a port that was free. Connections have an hour, unless the words say
+    otherwise."""
 
     def __init__(self, program, *words, limit=None):
+        words = [*words, *(it for pair in LONG.items() if pair[0] not in words for it in pair)]
         words = limited([program, "--port", "0", *words], limit)
         pipes = {"stdout": subprocess.PIPE, "stderr": subprocess.PIPE}
         self.process = subprocess.Popen(words, **pipes)
