@@ -10,7 +10,7 @@ use Rattle.account_book.proofs.Facts.{each_append}
 use Rattle.model_span.specs.Spans.{SpanData}
 use Rattle.model_span.specs.Dropped.{Reason}
 use Rattle.model_export.specs.Export.{LacksBody}
-use Rattle.model_desk.specs.Retries.{Outcome, Fate, again, fate_of, next_of, abandoned}
+use Rattle.model_desk.specs.Retries.{Outcome, Fate, again, fate_of, next_of}
 use Rattle.model_desk.specs.Retries as retries
 use Rattle.model_desk.specs.Waits.{RetryConfig, next_after, retried, wait_ns, greatest_moment}
 use Rattle.model_desk.proofs.Again.{again-few}

@@ -67,8 +67,8 @@ impl<J: Naming, A: Allocator + Copy> Lock<J, A> {
 }
 
 /// One that takes the lock: a pass, the worker, or the processor in the end. In contracts it is its
-/// account. Each call takes the lock once, does what is asked for, and gives it back; `wait` and
-/// `drained` wait in between.
+/// account. Each call but `new` and `pause` takes the lock once, does what is asked for, and gives it
+/// back; `wait` and `drained` give it up while they wait.
 #[derive(Drop)]
 pub(crate) struct Holder<J: Naming, R, A: Allocator> {
     lock: Arc<Lock<J, A>, A>,
@@ -239,7 +239,7 @@ impl<J: Naming, R: Wait, A: Allocator + Copy> Holder<J, R, A> {
 
 impl<J: Naming, R: Wait + time::Clock, A: Allocator + Copy> Holder<J, R, A> {
     /// Whether all is drained; if not, and no batch is due at this moment, the worker waits for a
-    /// short time, or until it is called.
+    /// short time, or until it is woken.
     pub(crate) fn drained(&mut self, now: u64) -> bool
         requires worker { self.old ≡ worker (origin_in self.old) (worker_in self.old) }
         ensures yes { IsTrue result → self.new ≡ on_worker after_drained self.old }

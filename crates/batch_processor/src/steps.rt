@@ -101,7 +101,7 @@ impl<J: Naming, R: Wait + time::Clock + Drop, A: Allocator + Copy> BatchSender<J
     }
 
     /// Whether all is drained; if not, and no batch is due at this moment, it waits for a short
-    /// time, or until it is called.
+    /// time, or until it is woken.
     pub(crate) fn drained(&mut self, now: u64) -> bool
         ensures yes { IsTrue result
             → self.new ≡ record self.old { account = after_drained self.old.account } }
@@ -186,7 +186,12 @@ impl<J: Naming, R: Wait + time::Clock + Drop, A: Allocator + Copy> BatchSender<J
         let Some(sending) = sending else {
             return Some(to_encode(batch));
         };
-        match sending.judge(clock.now(), rng.next_u64()) {
+        let word = if sending.is_pending() {
+            rng.next_u64()
+        } else {
+            0
+        };
+        match sending.judge(clock.now(), word) {
             Judged::Nothing(sending) => Some(on_its_way(batch, sending)),
             Judged::Again { sending, .. } => Some(on_its_way(batch, sending)),
             Judged::Over { fate, .. } => {

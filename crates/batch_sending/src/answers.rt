@@ -23,7 +23,7 @@ pub enum Attempted {
 #[derive(Drop)]
 #[derive_where(Debug)]
 pub enum Judged<A: Allocator = Global> {
-    /// There is no outcome to be judged: it is as it was.
+    /// There is no outcome to be judged: the sending, as it was.
     Nothing(Sending<A>),
     /// Another attempt follows.
     Again {

@@ -1,10 +1,11 @@
 //! A batch on its way to an exporter.
-ghost use Rattle.std.specs.Prelude.{◌≡◌, ◌<◌, ◌≤◌, IfErr, IfOk, IsErrOf, length};
+ghost use Rattle.std.specs.Prelude.{◌≡◌, ◌<◌, ◌≤◌, IfErr, IfOk, IsErrOf, OnErr, length};
 ghost use Rattle.model_export.specs.Export.{LacksBody, body_length, groups};
 ghost use Rattle.model_processor.specs.Batches.{IsBodyOf};
 ghost use Rattle.otlp_proto.specs.Bodies.{reason_of};
 ghost use Rattle.otlp_span.specs.Dropped.{reason_view};
-ghost use Rattle.batch_sending.specs.Sendings.{HasRoom, attempts_at, is_sent_at, to_send};
+ghost use Rattle.batch_sending.specs.Sendings.{HasRoom, attempts_at, is_pending_at, is_sent_at};
+ghost use Rattle.batch_sending.specs.Sendings.{to_send};
 ghost use Rattle.batch_sending.specs.Answers.{Attempts, Judges};
 
 use crate::answers::{Attempted, Judged};
@@ -63,7 +64,7 @@ impl<A: Allocator + Copy> Sending<A> {
     /// # Errors
     ///
     /// `OutOfMemory` where memory was refused, to the body or to the exporter; `TooLarge` where the
-    /// body has more than `max_body` bytes.
+    /// body has more than `max_body` bytes. The exporter is as it was.
     pub fn prepare<E: Exporter>(
         alloc: A,
         number: u64,
@@ -88,6 +89,7 @@ impl<A: Allocator + Copy> Sending<A> {
         ensures too_large { IsErrOf result EncodeFault.TooLarge
             → max_body < body_length (groups spans.now) }
         ensures nothing_is_sent { E.handed exporter.new ≡ E.handed exporter.old }
+        ensures refused { OnErr result (exporter.new ≡ exporter.old) }
     {
         let body = body_of(alloc, spans, max_body)?;
         exporter.prepare(body.len(), retry.attempts())?;
@@ -109,6 +111,8 @@ impl<A: Allocator> Sending<A> {
         ensures attempts { Attempts now self.old result self.new
             (E.handed exporter.old) (E.handed exporter.new) }
         ensures room { HasRoom (E.room exporter.new) self.new }
+        ensures early { result ≡ Attempted.Early → exporter.new ≡ exporter.old }
+        ensures unjudged { result ≡ Attempted.Unjudged → exporter.new ≡ exporter.old }
     {
         let attempt = match self.stage {
             Stage::ToSend => 1,
@@ -166,6 +170,13 @@ impl<A: Allocator> Sending<A> {
         ensures { result ≡ is_sent_at self.now.stage }
     {
         !matches!(self.stage, Stage::ToSend)
+    }
+
+    /// Whether an outcome is to be judged.
+    pub fn is_pending(&self) -> bool
+        ensures { result ≡ is_pending_at self.now.stage }
+    {
+        matches!(self.stage, Stage::ToJudge { .. })
     }
 
     /// How many attempts were made.

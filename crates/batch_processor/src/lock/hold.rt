@@ -32,8 +32,8 @@ pub(super) struct After<T> {
 }
 
 /// Where threads wait: the worker for a batch to fill, or for a flush or a shutdown; and flushes
-/// for a batch to end, or for the worker to leave. It can't take the lock. So a call that is lent
-/// a hold looks and waits in this very hold, and no thread is woken between.
+/// for a batch to end, or for the worker to leave. It can't take the lock. So a call that is handed
+/// a hold looks and waits in this very hold, and misses no wake-up.
 #[derive(Drop)]
 pub(super) struct Waits {
     to_do: Condvar,
@@ -92,7 +92,7 @@ impl Waits {
     }
 
     /// Whether all is drained; if not, and no batch is due at this moment, the worker waits for a
-    /// short time, or until it is called.
+    /// short time, or until it is woken.
     pub(super) fn for_work<J: Naming, A: Allocator + Copy, R: Wait + time::Clock>(
         &self,
         rt: &R,
@@ -115,5 +115,5 @@ impl Waits {
     }
 }
 
-/// How long a wait is of which nothing else is known, in milliseconds.
+/// How long the worker waits where nothing says for how long, in milliseconds.
 pub(super) const PAUSE_MS: u64 = 5;

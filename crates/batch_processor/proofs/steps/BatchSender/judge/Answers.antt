@@ -37,7 +37,7 @@ returns-in-Again-clause-step g c =
     (subst (λ (h : Option Hand). StepsAside s h s (hand_at batch (Some c.in-Again.sending)))
     (sym was)
     (again_step s batch c.in-Some.sending judged.attempt judged.outcome c.now.result
-    c.next_u64.result judged.stage (subst (IsWorkingWith s) was c.requires) c.in-Again.sending
+    c.if-is_pending.word judged.stage (subst (IsWorkingWith s) was c.requires) c.in-Again.sending
     c.in-Again.from judged.decided judged.sending))
 
 pub returns-in-Over-clause-step : goal.returns-in-Over-clause-step
@@ -48,6 +48,6 @@ returns-in-Over-clause-step g c =
     let was : Some c.args.hand ≡ hand_at batch (Some c.in-Some.sending) = search rules in
     subst (λ (h : Option Hand). StepsAside s h c.settle.new.self None) (sym was)
     (settle_step s batch c.in-Some.sending judged.attempt judged.outcome c.now.result
-    c.next_u64.result judged.stage (subst (IsWorkingWith s) was c.requires)
+    c.if-is_pending.word judged.stage (subst (IsWorkingWith s) was c.requires)
     (fate_view c.in-Over.fate) (ap fate_of judged.decided ∙ judged.ends) c.settle.new.self
     c.settle.ensures)
