@@ -16,7 +16,7 @@ time_at times Answering = times.answer_ms
 time_at times Discarding = times.discard_ms
 time_at times Closing = times.close_ms
 
--- an answer goes out there, or a request arrives, after which one before may still be answered
+-- an answer goes out there, or a request arrives, while an earlier one's answer may still go out
 -- (RFC 9112, section 9.3.2)
 abbrev pub is_of_requests : Stage → Bool
 is_of_requests Receiving = true

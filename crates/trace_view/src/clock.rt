@@ -23,7 +23,8 @@ pub enum Stage {
 pub struct StageTimes {
     /// How long it may ask for nothing.
     pub idle_ms: u64,
-    /// How long its request may take to arrive, from its first byte.
+    /// How long its request may take to arrive: from its first byte, or from when it last took bytes
+    /// of an earlier answer.
     pub request_ms: u64,
     /// How long it may take nothing of its answer.
     pub answer_ms: u64,
@@ -91,9 +92,9 @@ impl PeerClock {
     }
 
     /// Notes what is seen of the peer. Its time begins anew where it is at another stage, and where
-    /// it has taken bytes of an answer while that goes out, or while a further request arrives: a
-    /// client that reads isn't cut off, the time without a request isn't counted as a request's, and
-    /// that of the request before isn't either.
+    /// it has taken bytes of an answer, also while a further request arrives: a client that reads
+    /// isn't cut off, and neither the time without a request nor that of an earlier request counts
+    /// as a request's.
     pub fn note(&mut self, sight: Sight)
         ensures stage { self.new.stage ≡ sight.stage }
         ensures moved { sight.stage ≢ self.old.stage → self.new.since_ms ≡ sight.at_ms }

@@ -218,7 +218,7 @@ impl<T: Read + Write, P: Pieces + Drop> Peer<T, P> {
     /// Reads, answers and writes, until the stream would have to be waited for, or others are to
     /// have a turn. Each request that is whole is answered by the service, in order, and no other
     /// is (see [`Connection::advance`]). As many bytes as `room` says may still be pending beside
-    /// what the connection holds. The runtime's clock is read after each answer.
+    /// what the connection holds. The runtime's clock is read in each step, after what is answered.
     pub fn serve<S: Service<Pieces = P>, R: Clock>(
         &mut self,
         service: &mut S,

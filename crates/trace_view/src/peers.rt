@@ -91,12 +91,14 @@ where
         if self.crowd.poll.poll(&mut self.events, Some(wait)).is_err() {
             return Err(End::Wait);
         }
-        // A peer is closed for what was seen until now: what comes while others have their turns is
-        // seen first.
+        // A peer is closed at the end by the moment before the turns: what it sent during the turns
+        // of others is read in the next round, before it is judged by a later moment.
         let at_ms = now_ms(&self.crowd.rt);
         self.serve_reported(service);
         let accepted = if self.crowd.accepting.is_due(at_ms) {
-            self.crowd.accept(at_ms)
+            // (the turns may have taken long)
+            let came_ms = now_ms(&self.crowd.rt);
+            self.crowd.accept(came_ms)
         } else {
             0
         };
