@@ -54,13 +54,20 @@ pub fn attempts()
         (Some []) (Some (handing 7 1 (1 ∷ 2 ∷ 3 ∷ []) no_reply)) }
     ensures second { IsSent 9 2 outcomes.Delivered (seventh (to_retry 1 9))
         (seventh (to_judge 2 delivered)) (Some []) (Some (handing 7 2 (1 ∷ 2 ∷ 3 ∷ []) delivered)) }
+    ensures same_number { ¬ (IsSent 9 1 outcomes.Delivered (seventh (to_retry 1 9))
+        (seventh (to_judge 1 delivered)) (Some []) (Some (handing 7 1 (1 ∷ 2 ∷ 3 ∷ []) delivered))) }
+    ensures another_byte { ¬ (IsSent 9 2 outcomes.Delivered (seventh (to_retry 1 9))
+        (seventh (to_judge 2 delivered)) (Some []) (Some (handing 7 2 (1 ∷ 2 ∷ 4 ∷ []) delivered))) }
     ensures early { IsEarly 8 (seventh (to_retry 1 9)) (seventh (to_retry 1 9)) (Some []) (Some []) }
 {}
 
-/// Without a reply a second goes by before the second attempt; the fifth is the last.
+/// Without a reply, and with the word 0, a second goes by before the second attempt; the fifth is
+/// the last.
 pub fn outcomes()
     ensures again { IsAgain 9 0 (seventh (to_judge 1 no_reply)) (seventh (to_retry 1 1000000009))
         1000000009 }
+    ensures no_sixth { ¬ (IsAgain 9 0 (seventh (to_judge 5 no_reply))
+        (seventh (to_retry 5 1000000009)) 1000000009) }
     ensures taken { IsOver 9 0 (seventh (to_judge 1 delivered)) next.Done fates.Delivered }
     ensures last { IsOver 9 0 (seventh (to_judge 5 no_reply))
         (next.GiveUp causes.Attempts) fates.GivenUp }
