@@ -1,5 +1,6 @@
 -- Where a request goes (RFC 9110, sections 4.2 and 7.2; which hosts and paths are taken: profile).
-use Rattle.std.specs.Prelude.{ℕ, ◌+◌, ◌-◌, ◌^◌, ◌<◌, Bool, false, ◌&&◌, ◌||◌, ◌==◌, nat_le, nat_lt}
+use Rattle.std.specs.Prelude.{ℕ, ◌+◌, ◌-◌, ◌^◌, ◌<◌, Bool, false, not, ◌&&◌, ◌||◌, ◌==◌, nat_le}
+use Rattle.std.specs.Prelude.{nat_lt}
 use Rattle.std.specs.Prelude.{List, [], ◌∷◌, length, slice_index, slice_range, IsTrue}
 use Rattle.std.specs.Char.{is_ascii_alphanumeric, is_ascii_hexdigit}
 use Rattle.std.specs.List.{list_all, list_any}
@@ -47,16 +48,17 @@ is_literal host =
 abbrev pub is_host : List ℕ → Bool
 is_host host = is_name host || is_literal host
 
--- a visible ASCII byte, from `!` to `~`
+-- a visible ASCII byte, from `!` to `~`, but no `#` (35), which begins a fragment: a request has none
+-- (RFC 9112, section 3.2; RFC 3986, section 3.5)
 abbrev pub is_path_byte : ℕ → Bool
-is_path_byte byte = nat_le 33 byte && nat_le byte 126
+is_path_byte byte = nat_le 33 byte && nat_le byte 126 && not (byte == 35)
 
 -- the first byte is a `/`
 abbrev pub begins_with_slash : List ℕ → Bool
 begins_with_slash [] = false
 begins_with_slash (byte ∷ bytes) = byte == 47
 
--- a `/` and then any visible bytes
+-- a `/` and then any visible bytes but `#`
 abbrev pub is_path : List ℕ → Bool
 is_path path = begins_with_slash path && list_all is_path_byte path
 

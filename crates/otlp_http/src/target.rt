@@ -127,7 +127,7 @@ fn is_literal(host: &[u8]) -> bool
 fn are_path_bytes(bytes: &[u8]) -> bool
     ensures { result ≡ list_all is_path_byte bytes.now }
 {
-    bytes.iter().all(|b| *b >= b'!' && *b <= b'~')
+    bytes.iter().all(|b| *b >= b'!' && *b <= b'~' && *b != b'#')
 }
 
 /// Whether this is a host.
@@ -156,8 +156,9 @@ impl<A: Allocator + Copy> Target<A> {
     /// The first that holds: `BadHost` where the host is neither a name or an address of four
     /// numbers, of ASCII letters, digits, `.`, `-` and `_`, one byte at least, nor an IPv6 address
     /// in brackets, as `[::1]` (RFC 3986, section 3.2.2; of the address only the bytes are tested:
-    /// profile); `BadPath` where the path doesn't begin with `/` or has a byte that isn't from `!`
-    /// to `~` (profile); `OutOfMemory` where one of them could not be stored.
+    /// profile); `BadPath` where the path doesn't begin with `/`, has a byte that isn't from `!` to
+    /// `~` (profile), or has a fragment, which begins with `#` (RFC 9112, section 3.2);
+    /// `OutOfMemory` where one of them could not be stored.
     pub fn new(alloc: A, host: &str, port: u16, path: &str) -> Result<Target<A>, TargetFault>
         ensures value { IfOk result (λ t.
             t ≡ record { host = host.now; port = port; path = path.now; fields = [] }) }

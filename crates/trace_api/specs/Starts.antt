@@ -11,7 +11,6 @@ use Rattle.otlp_span.specs.Parts.{kind_view}
 use Rattle.otlp_sampler.specs.Sampling.{decision_view}
 use Rattle.trace_api.specs.declared.provider.Ids.{Ids}
 use Rattle.trace_api.specs.declared.provider.Decided.{Decided}
-use Rattle.trace_api.specs.declared.provider.Opening.{Opening}
 use Rattle.trace_api.specs.declared.provider.StartFault.{StartFault}
 use Rattle.trace_api.specs.declared.provider.StartFault.TheVariants.{NoRandomness, OutOfMemory}
 
@@ -42,7 +41,6 @@ tracer_view meaning t = record {
 abbrev pub ids_view : Ids → ModelIds
 ids_view ids = record { trace = ids.trace.0; span = ids.span.0 }
 
--- the span that opens so, of this tracer
 -- A sampler that was asked so decided this, of the parent that counts.
 pub record IsDecided {A : Type 0} (sampler : SamplerMeaning) (parent : Option Context)
     (name : List ℕ) (kind : Kind) (d : Decided A) : Type 0 where
@@ -54,15 +52,12 @@ pub record IsDecided {A : Type 0} (sampler : SamplerMeaning) (parent : Option Co
     kind = kind;
   })
 
-abbrev pub opening_view : {A : Type 0} → Tracer → Opening A → StartedSpan
-opening_view tracer o =
-    let a : StartRequest = record {
-      parent = parent_view o.decided.parent;
-      name = string_bytes o.name;
-      kind = kind_view o.kind;
-      at = o.at;
-    } in
-    started_span_as tracer a (ids_view o.decided.ids) (decision_view o.decided.decision)
+-- the span of this tracer that was decided on so, with this name, kind and moment
+abbrev pub opened_span : {A : Type 0} → Tracer → Decided A → List ℕ → Kind → ℕ → StartedSpan
+opened_span tracer d name kind at =
+    let a : StartRequest =
+    record { parent = parent_view d.parent; name = name; kind = kind; at = at }
+    in started_span_as tracer a (ids_view d.ids) (decision_view d.decision)
 
 -- Starting it takes memory: it is recorded, or has a trace state to copy.
 abbrev pub StartTakesMemory : StartedSpan → Type 0

@@ -14,7 +14,7 @@ ghost use Rattle.otlp_ids.specs.WordStream.{Spends, words_of};
 ghost use Rattle.otlp_span.specs.Parts.{kept_parent_view, kind_view, limits_view, resource_view};
 ghost use Rattle.otlp_span.specs.Parts.{scope_view};
 ghost use Rattle.otlp_sampler.specs.Sampling.{decision_view};
-ghost use Rattle.trace_api.specs.Starts.{IsDecided, OpensAs, StartsAs, ids_view, opening_view};
+ghost use Rattle.trace_api.specs.Starts.{IsDecided, OpensAs, StartsAs, ids_view, opened_span};
 ghost use Rattle.trace_api.specs.Starts.{tracer_view};
 
 use crate::span::Span;
@@ -180,16 +180,6 @@ struct Decided<'a, A: Allocator> {
     decision: Decision,
 }
 
-/// How a span opens that has been decided on.
-#[derive(Drop)]
-struct Opening<'a, A: Allocator> {
-    decided: Decided<'a, A>,
-    name: String<A>,
-    kind: Kind,
-    /// In nanoseconds since 1970.
-    at: u64,
-}
-
 /// The flags of a span with this parent: the parent's, but for the sampled flag (W3C Trace Context,
 /// "trace-flags").
 fn child_flags<A: Allocator>(parent: Option<&SpanContext<A>>, sampled: bool) -> TraceFlags
@@ -281,13 +271,7 @@ impl<'a, S: Sampler, A: Allocator + Copy> Tracer<'a, S, A> {
         let Some(decided) = self.decide(rng, parent, name.as_str(), kind) else {
             return Err(StartFault::NoRandomness);
         };
-        let opening = Opening {
-            decided,
-            name,
-            kind,
-            at,
-        };
-        Ok(self.open(alloc, opening)?)
+        Ok(self.open(alloc, decided, name, kind, at)?)
     }
 
     /// Starts a span as `start`, with a copy of a name. It is copied only where the span is
@@ -314,13 +298,8 @@ impl<'a, S: Sampler, A: Allocator + Copy> Tracer<'a, S, A> {
         let Some(decided) = self.decide(rng, parent, name, kind) else {
             return Err(StartFault::NoRandomness);
         };
-        let opening = Opening {
-            name: kept_name(alloc, decided.decision, name)?,
-            decided,
-            kind,
-            at,
-        };
-        Ok(self.open(alloc, opening)?)
+        let name = kept_name(alloc, decided.decision, name)?;
+        Ok(self.open(alloc, decided, name, kind, at)?)
     }
 
     /// Draws the identifiers of a span, unless the generator gives only zeros, and asks the sampler
@@ -353,34 +332,40 @@ impl<'a, S: Sampler, A: Allocator + Copy> Tracer<'a, S, A> {
         })
     }
 
-    /// The span that opens so.
-    fn open(&self, alloc: A, opening: Opening<'_, A>) -> Result<Span<A>, OutOfMemory>
-        ensures { OpensAs (opening_view (tracer_view S.meaning self.now) opening.entry) result }
+    /// The span that was decided on so, at a moment in nanoseconds since 1970.
+    fn open(
+        &self,
+        alloc: A,
+        decided: Decided<'_, A>,
+        name: String<A>,
+        kind: Kind,
+        at: u64,
+    ) -> Result<Span<A>, OutOfMemory>
+        ensures { let name = string_bytes name in
+            let tracer = tracer_view S.meaning self.now in
+            OpensAs (opened_span tracer decided.entry name (kind_view kind) at) result }
     {
         let context = SpanContext {
-            trace: opening.decided.ids.trace,
-            span: opening.decided.ids.span,
-            flags: child_flags(
-                opening.decided.parent,
-                opening.decided.decision.is_sampled(),
-            ),
+            trace: decided.ids.trace,
+            span: decided.ids.span,
+            flags: child_flags(decided.parent, decided.decision.is_sampled()),
             remote: false,
-            state: child_state(alloc, opening.decided.parent)?,
+            state: child_state(alloc, decided.parent)?,
         };
-        if !opening.decided.decision.is_recording() {
+        if !decided.decision.is_recording() {
             return Ok(Span::not_recording(context));
         }
         let provider = self.provider;
-        let (parent, parent_remote) = kept_parent(opening.decided.parent);
+        let (parent, parent_remote) = kept_parent(decided.parent);
         let opening = Open {
             context: context.copy(alloc)?,
             parent,
             parent_remote,
             resource: Arc::try_clone(&provider.resource)?,
             scope: Arc::try_clone(&self.scope)?,
-            name: opening.name,
-            kind: opening.kind,
-            start: opening.at,
+            name,
+            kind,
+            start: at,
         };
         let record = SpanRecord::open(alloc, opening, &provider.limits)?;
         Ok(Span::recording(context, record))

@@ -469,68 +469,58 @@ module _ {S R : Type 0} (meaning : S → SamplerMeaning) (stream : R → Stream)
     abbrev answer_at : retries.Outcome → Stage → Answer
     answer_at outcome st = attempt_answer h (desk_after run h) outcome now (progress_at st)
 
-    -- The next attempt was made.
-    sent-at : (k : ℕ) (outcome : Outcome) (desk2 : Desk) → k ≡ attempts_at s.stage + 1
-        → (st : Stage) → s.stage ≡ st → MayBeSentAt now st
-        → HandsAt (is_sent_at st) batch desk desk2
-        → After (attempt now) (runs.sent batch.number k (outcome_view outcome)) desk2
-        (Some (record {
-          batch = batch;
-          sending = Some (record s { stage = to_judge k (outcome_view outcome) });
-        }))
-    sent-at k outcome desk2 next st e may hands = by st e may hands
-      where
-        told : retries.Outcome
-        told = outcome_view outcome
+    module _ (k : ℕ) (outcome : Outcome) (desk2 : Desk) (next : k ≡ attempts_at s.stage + 1) where
+      abbrev told : retries.Outcome
+      told = outcome_view outcome
 
-        x : Answered
-        x = record { step = attempt now; answer = runs.sent batch.number k told }
+      abbrev x : Answered
+      x = record { step = attempt now; answer = runs.sent batch.number k told }
 
-        p : IsSendingOf run.retry batch s
-        p = l.prepared
+      abbrev p : IsSendingOf run.retry batch s
+      p = l.prepared
 
-        goes-to : x.answer ≡ answer_at told s.stage
-            → GoesTo batch x (record s { stage = to_judge k told })
-        goes-to is = record {
-          prepared = record {
-            number = p.number;
-            retry = p.retry;
-            body = p.body;
-            some = λ e. omega (arith, next);
-          };
-          progress = refl;
-          attempts = sym (last_attempt-some h x k refl);
-          right = attempt-right told now (progress_at s.stage) x.answer l.progress is;
-        }
+      goes-to : x.answer ≡ answer_at told s.stage
+          → GoesTo batch x (record s { stage = to_judge k told })
+      goes-to is = record {
+        prepared = record {
+          number = p.number;
+          retry = p.retry;
+          body = p.body;
+          some = λ e. omega (arith, next);
+        };
+        progress = refl;
+        attempts = sym (last_attempt-some h x k refl);
+        right = attempt-right told now (progress_at s.stage) x.answer l.progress is;
+      }
 
-        by : (st : Stage) → s.stage ≡ st → MayBeSentAt now st
-            → HandsAt (is_sent_at st) batch desk desk2
-            → After (attempt now) x.answer desk2
-            (Some (record { batch = batch; sending = Some (record s { stage = to_judge k told }) }))
-        by (to_judge j earlier) e may hands = absurd may
-        by to_send e may hands =
-            let one : k ≡ 1 = next ∙ ap (λ st. attempts_at st + 1) e in
-            let is : event_by run.setup h x.answer x.step ≡ Some queue.handed =
-            ap (λ n. if n == 1 then Some queue.handed else None) one in
-            goes-on batch (Some s) l x (refl, refl) _
-            (goes-to
-            ((λ i. runs.sent (l.batches i) (one i) told) ∙ ap (answer_at told) (sym e)))
-            (Some queue.handed) desk2 is (keeps-last-by x queue.handed is refl refl)
-            (hands.does 0 events at.history) hands.keeps hands.with_exporter
-        by (to_retry attempts moment) e may same =
-            let some : 1 ≤ attempts_at s.stage = p.some (ap is_sent_at e) in
-            let is : event_by run.setup h x.answer x.step ≡ None =
-            ap (λ b. if b then Some queue.handed else None)
-            (ne_eqb k 1 (λ q. absurd (omega (arith, q, next, some)))) in
-            rw same
-            (goes-on-alone batch (Some s) l x (refl, refl) _
-            (goes-to
-            ((λ i. runs.sent (l.batches i) ((next ∙ ap (λ n. n + 1) l.attempts) i) told)
-            ∙ ap (λ b. if b then runs.early
-            else runs.sent (desk_after run h).batches (last_attempt h + 1) told)
-            (sym (le-ltb now moment may))
-            ∙ ap (answer_at told) (sym e)))
-            is (sym (ap is_sent_at e)))
+      -- The next attempt was made.
+      sent-at : (st : Stage) → s.stage ≡ st → MayBeSentAt now st
+          → HandsAt (is_sent_at st) batch desk desk2
+          → After (attempt now) x.answer desk2
+          (Some (record { batch = batch; sending = Some (record s { stage = to_judge k told }) }))
+      sent-at (to_judge j earlier) e may hands = absurd may
+      sent-at to_send e may hands =
+          let one : k ≡ 1 = next ∙ ap (λ st. attempts_at st + 1) e in
+          let is : event_by run.setup h x.answer x.step ≡ Some queue.handed =
+          ap (λ n. if n == 1 then Some queue.handed else None) one in
+          goes-on batch (Some s) l x (refl, refl) _
+          (goes-to ((λ i. runs.sent (l.batches i) (one i) told) ∙ ap (answer_at told) (sym e)))
+          (Some queue.handed) desk2 is (keeps-last-by x queue.handed is refl refl)
+          (hands.does 0 events at.history) hands.keeps hands.with_exporter
+      sent-at (to_retry attempts moment) e may same =
+          let some : 1 ≤ attempts_at s.stage = p.some (ap is_sent_at e) in
+          let is : event_by run.setup h x.answer x.step ≡ None =
+          ap (λ b. if b then Some queue.handed else None)
+          (ne_eqb k 1 (λ q. absurd (omega (arith, q, next, some)))) in
+          rw same
+          (goes-on-alone batch (Some s) l x (refl, refl) _
+          (goes-to
+          ((λ i. runs.sent (l.batches i) ((next ∙ ap (λ n. n + 1) l.attempts) i) told)
+          ∙ ap (λ b. if b then runs.early
+          else runs.sent (desk_after run h).batches (last_attempt h + 1) told)
+          (sym (le-ltb now moment may))
+          ∙ ap (answer_at told) (sym e)))
+          is (sym (ap is_sent_at e)))
 
     -- None was, and this is the answer.
     waits-on : (answer : Answer) (st : Stage) (next : Sending) (desk2 : Desk)

@@ -5,7 +5,7 @@ use Rattle.model_export.specs.Export.{LacksBody, groups, body_length}
 use Rattle.model_desk.specs.Queue as queue
 use Rattle.model_desk.specs.Desks.{Desk, Does, DropsSpans, SettlesSpans, TakesSpans}
 use Rattle.model_desk.specs.Waits.{RetryConfig}
-use Rattle.model_processor.specs.WorkerClauses.{IsBodyOf}
+use Rattle.model_processor.specs.Batches.{IsBodyOf}
 use Rattle.otlp_span.specs.Dropped.{reason_view}
 use Rattle.otlp_span.specs.declared.reason.Reason.{Reason}
 use Rattle.retry_core.specs.Retries.{fate_view}

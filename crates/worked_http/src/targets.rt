@@ -42,11 +42,12 @@ pub fn host_bytes()
     ensures above_letters { is_host_byte 123 ≡ false }
 {}
 
-/// Paths: a slash, and then any visible bytes.
+/// Paths: a slash, and then any visible bytes but `#`, which begins a fragment.
 pub fn paths()
     ensures usual { is_path (codes "/v1/traces") ≡ true }
     ensures root { is_path (codes "/") ≡ true }
-    ensures query { is_path (codes "/a?b=%20#!~") ≡ true }
+    ensures query { is_path (codes "/a?b=%20!~") ≡ true }
+    ensures fragment { is_path (codes "/a?b#c") ≡ false }
     ensures empty { is_path [] ≡ false }
     ensures no_slash { is_path (codes "v1/traces") ≡ false }
     ensures space { is_path (codes "/a b") ≡ false }
@@ -54,6 +55,8 @@ pub fn paths()
     ensures not_ascii { is_path (47 ∷ 195 ∷ 169 ∷ []) ≡ false }
     ensures below_visible { is_path_byte 32 ≡ false }
     ensures first_visible { is_path_byte 33 ≡ true }
+    ensures below_fragment { is_path_byte 34 ≡ true }
+    ensures above_fragment { is_path_byte 36 ≡ true }
     ensures last_visible { is_path_byte 126 ≡ true }
     ensures above_visible { is_path_byte 127 ≡ false }
 {}

@@ -7,15 +7,16 @@ use Rattle.model_span.specs.Starts.{StartedSpan}
 use Rattle.otlp_sampler.specs.Sampling.{decision_view}
 use Rattle.otlp_span.specs.Parts.{kept_parent_view, kind_view, limits_view, resource_view}
 use Rattle.otlp_span.specs.Parts.{scope_view}
-use Rattle.trace_api.specs.Starts.{opening_view, tracer_view}
+use Rattle.trace_api.specs.Starts.{opened_span, tracer_view}
 use Rattle.trace_api.proofs.Held.{held-dropped, held-recorded, recorded-is}
 use Rattle.trace_api.proofs.provider.Tracer.open.Goals as goal
 
 pub returns-then-not-is_recording : goal.returns-then-not-is_recording
 returns-then-not-is_recording g c =
     let s : StartedSpan =
-    opening_view (tracer_view g.S.Sampler.meaning c.args.self.now) c.args.opening in
-    let e : is_recording (decision_view c.args.opening.decided.decision) ≡ false =
+    opened_span (tracer_view g.S.Sampler.meaning c.args.self.now) c.args.decided
+    (string_bytes c.args.name) (kind_view c.args.kind) c.args.at in
+    let e : is_recording (decision_view c.args.decided.decision) ≡ false =
     sym c.is_recording.ensures ∙ c.if-not-is_recording.true in
     c.not_recording.ensures
     ∙ rw (c.child_flags.ensures, c.is_sampled.ensures, c.in_ok-child_state.ensures.value)
@@ -24,8 +25,9 @@ returns-then-not-is_recording g c =
 pub returns : goal.returns
 returns g c =
     let s : StartedSpan =
-    opening_view (tracer_view g.S.Sampler.meaning c.args.self.now) c.args.opening in
-    let e : is_recording (decision_view c.args.opening.decided.decision) ≡ true =
+    opened_span (tracer_view g.S.Sampler.meaning c.args.self.now) c.args.decided
+    (string_bytes c.args.name) (kind_view c.args.kind) c.args.at in
+    let e : is_recording (decision_view c.args.decided.decision) ≡ true =
     sym c.is_recording.ensures ∙ c.if-not-is_recording.false in
     let limits : limits_view c.provider.inside.limits ≡ s.limits =
     ap (λ t. t.limits) c.provider.view_is ∙ ap (λ t. t.provider.limits) c.self.view_is in
@@ -36,9 +38,9 @@ returns g c =
     let begin : Start = record {
       context = context_view c.in_ok-copy.field-0;
       parent = kept_parent_view c.kept_parent-parent.result.0 c.kept_parent-parent.result.1;
-      name = string_bytes c.args.opening.name;
-      kind = kind_view c.args.opening.kind;
-      at = c.args.opening.at;
+      name = string_bytes c.args.name;
+      kind = kind_view c.args.kind;
+      at = c.args.at;
     } in
     let started : begin ≡ s.start =
     rw (

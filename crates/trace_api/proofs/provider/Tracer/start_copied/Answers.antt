@@ -15,8 +15,8 @@ returns-in_default g c = record {
   spent = c.in_default.ensures.spent;
 }
 
-pub returns-in_err-kept_name : goal.returns-in_err-kept_name
-returns-in_err-kept_name g c =
+pub returns-in_err-name : goal.returns-in_err-name
+returns-in_err-name g c =
     let tracer : Tracer = tracer_view g.S.Sampler.meaning c.args.self.now in
     let a : StartRequest =
     start_request (parent_view c.args.parent) c.args.name.now (kind_view c.args.kind) c.args.at in
@@ -25,7 +25,7 @@ returns-in_err-kept_name g c =
     ≡ decision_of tracer a c.in-Some.decided.ids.trace.0 =
     d.decision_is in
     let records : is_recording (decision_of tracer a c.in-Some.decided.ids.trace.0) ≡ true =
-    sym (ap is_recording decision) ∙ c.in_err-kept_name.ensures.refused in
+    sym (ap is_recording decision) ∙ c.in_err-name.ensures.refused in
     record {
       started =
           refused _ _ _ c.from_residual.ensures.1 (has-started tracer a _ _ c.in-Some.ensures.ids)
@@ -62,9 +62,9 @@ returns g c =
     d.decision_is in
     let kept =
     held-as-named tracer a.parent
-    (string_bytes c.in_ok-kept_name.field-0) c.args.name.now a.kind c.args.at
+    (string_bytes c.in_ok-name.field-0) c.args.name.now a.kind c.args.at
     (ids_view c.in-Some.decided.ids) (decision_of tracer a c.in-Some.decided.ids.trace.0)
-    (λ e. c.in_ok-kept_name.ensures.recorded (ap is_recording decision ∙ e)) in
+    (λ e. c.in_ok-name.ensures.recorded (ap is_recording decision ∙ e)) in
     record {
       started = (
         _,
