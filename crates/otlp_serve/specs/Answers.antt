@@ -1,7 +1,7 @@
 -- What a request is answered: the first of these that holds. (OTLP Specification, OTLP/HTTP Request
 -- and OTLP/HTTP Response; RFC 9110, section 15.5; the order: profile)
-use Rattle.std.specs.Prelude.{ℕ, Bool, false, ◌&&◌, ◌==◌, not, bytes_eq, if◌then◌else◌, List, []}
-use Rattle.std.specs.Prelude.{◌∷◌, map}
+use Rattle.std.specs.Prelude.{ℕ, Bool, false, ◌&&◌, ◌||◌, ◌==◌, not, bytes_eq, if◌then◌else◌}
+use Rattle.std.specs.Prelude.{List, [], ◌∷◌, map, is_some}
 use Rattle.std.specs.Prelude.{reverse, codes, Option, Some, None}
 use Rattle.std.specs.List.{list_all}
 use Rattle.httparse.specs.Grammar.{skip_ows}
@@ -9,6 +9,8 @@ use Rattle.http_header.specs.HeaderMap.{get_all}
 use Rattle.http_header.specs.Token.{lowercase}
 use Rattle.http_wire.specs.declared.fault.HttpFault.{HttpFault}
 use Rattle.http_wire.specs.declared.fault.HttpFault.TheVariants as faults
+use Rattle.otlp_serve.specs.declared.coding.ContentCoding.{ContentCoding}
+use Rattle.otlp_serve.specs.declared.coding.ContentCoding.TheVariants as codings
 use Rattle.otlp_serve.specs.declared.fault.PostFault.{PostFault}
 use Rattle.otlp_serve.specs.declared.fault.PostFault.TheVariants.{Head, Body}
 use Rattle.otlp_serve.specs.declared.reply.PostReply.{PostReply}
@@ -72,13 +74,36 @@ field_values post name = map (λ value. value.bytes) (get_all post.fields name)
 abbrev pub is_for_traces : List ℕ → Bool
 is_for_traces target = bytes_eq (before 63 target) (codes "/v1/traces")
 
--- why a request that was read is refused, if it is
-abbrev pub refusal_of : HttpPost → Option PostReply
-refusal_of post =
+-- a body was compressed once (RFC 9110, section 8.4.1.3; in one field alone: profile)
+abbrev pub is_gzip : List (List ℕ) → Bool
+is_gzip (value ∷ []) = is_same_word value (codes "gzip") || is_same_word value (codes "x-gzip")
+is_gzip _ = false
+
+-- how a body comes, by the values of Content-Encoding, where a receiver of gzip reads it
+abbrev pub coding_of : List (List ℕ) → Option ContentCoding
+coding_of values =
+    if is_plain values then Some codings.Identity
+    else if is_gzip values then Some codings.Gzip
+    else None
+
+-- why a request is refused, if it is, where its body is of a type and a coding that are read, or not
+abbrev pub refusal_where : Bool → HttpPost → Option PostReply
+refusal_where is_read post =
     if not (is_for_traces post.target) then Some (plain_reply statuses.NotFound)
     else if not (bytes_eq post.method (codes "POST"))
     then Some (plain_reply statuses.MethodNotAllowed)
-    else if not (is_protobuf (field_values post (codes "content-type"))
-    && is_plain (field_values post (codes "content-encoding")))
+    else if not is_read
     then Some (plain_reply statuses.UnsupportedMediaType)
     else None
+
+-- why a request that was read is refused, if it is
+abbrev pub refusal_of : HttpPost → Option PostReply
+refusal_of post =
+    refusal_where (is_protobuf (field_values post (codes "content-type"))
+    && is_plain (field_values post (codes "content-encoding"))) post
+
+-- the same where bodies in gzip are read too
+abbrev pub refusal_with_gzip : HttpPost → Option PostReply
+refusal_with_gzip post =
+    refusal_where (is_protobuf (field_values post (codes "content-type"))
+    && is_some (coding_of (field_values post (codes "content-encoding")))) post

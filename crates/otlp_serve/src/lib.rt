@@ -5,6 +5,7 @@
 #![tactic(auto)]
 
 mod answer;
+mod coding;
 mod collector;
 mod fault;
 mod head;
@@ -12,7 +13,8 @@ mod post;
 mod reply;
 mod status;
 
-pub use answer::refusal_of;
+pub use answer::{coding_of, refusal_of, refusal_with_gzip};
+pub use coding::ContentCoding;
 pub use collector::{Collector, TakeBody};
 pub use fault::PostFault;
 pub use http_wire::{

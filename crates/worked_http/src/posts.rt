@@ -7,8 +7,10 @@ ghost use Rattle.http_wire.specs.Bodies.{chunked, empty, request_framing, sized,
 ghost use Rattle.http_wire.specs.declared.fault.HttpFault.TheVariants as faults;
 ghost use Rattle.otlp_serve.specs.declared.fault.PostFault.TheVariants.{Body, Head};
 ghost use Rattle.otlp_serve.specs.declared.status.ReplyStatus.TheVariants as statuses;
-ghost use Rattle.otlp_serve.specs.Answers.{is_plain, is_protobuf, media_type, plain_reply};
-ghost use Rattle.otlp_serve.specs.Answers.{refusal_of, reply_to_fault};
+ghost use Rattle.otlp_serve.specs.Answers.{coding_of, is_plain, is_protobuf, media_type};
+ghost use Rattle.otlp_serve.specs.Answers.{plain_reply, refusal_of, refusal_with_gzip};
+ghost use Rattle.otlp_serve.specs.Answers.{reply_to_fault};
+ghost use Rattle.otlp_serve.specs.declared.coding.ContentCoding.TheVariants as codings;
 ghost use Rattle.otlp_serve.specs.Replies.{reply_text};
 ghost use Rattle.worked_http.specs.Posted.{post_with, three_bytes, typed, under, AreNoPost};
 ghost use Rattle.worked_http.specs.Posted.{ArePost};
@@ -81,6 +83,18 @@ pub fn types()
     ensures gzip { is_plain (codes "identity" ∷ codes "gzip" ∷ []) ≡ false }
 {}
 
+/// How bodies come where gzip is read.
+pub fn codings()
+    ensures unsaid { coding_of [] ≡ Some codings.Identity }
+    ensures plain { coding_of (codes "identity" ∷ codes "Identity" ∷ []) ≡ Some codings.Identity }
+    ensures gzip { coding_of (codes "GZip" ∷ []) ≡ Some codings.Gzip }
+    ensures older_name { coding_of (codes "x-gzip" ∷ []) ≡ Some codings.Gzip }
+    ensures twice { coding_of (codes "gzip" ∷ codes "gzip" ∷ []) ≡ None }
+    ensures list { coding_of (codes "gzip, gzip" ∷ []) ≡ None }
+    ensures deflate { coding_of (codes "deflate" ∷ []) ≡ None }
+    ensures empty { coding_of ([] ∷ []) ≡ None }
+{}
+
 /// Requests that are for the collector, and others: the path counts before the method, and this
 /// before the type.
 pub fn refusals()
@@ -95,6 +109,11 @@ pub fn refusals()
         ≡ Some (plain_reply statuses.UnsupportedMediaType) }
     ensures gzip { refusal_of (post_with (codes "POST") (codes "/v1/traces")
         (typed ++ under (codes "content-encoding") (codes "gzip" ∷ [])))
+        ≡ Some (plain_reply statuses.UnsupportedMediaType) }
+    ensures read_gzip { refusal_with_gzip (post_with (codes "POST") (codes "/v1/traces")
+        (typed ++ under (codes "content-encoding") (codes "gzip" ∷ []))) ≡ None }
+    ensures brotli { refusal_with_gzip (post_with (codes "POST") (codes "/v1/traces")
+        (typed ++ under (codes "content-encoding") (codes "br" ∷ [])))
         ≡ Some (plain_reply statuses.UnsupportedMediaType) }
 {}
 
