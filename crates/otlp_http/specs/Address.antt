@@ -48,8 +48,8 @@ is_literal host =
 abbrev pub is_host : List ℕ → Bool
 is_host host = is_name host || is_literal host
 
--- a visible ASCII byte, from `!` to `~`, but no `#` (35), which begins a fragment: a request has none
--- (RFC 9112, section 3.2; RFC 3986, section 3.5)
+-- a visible ASCII byte, from `!` to `~`, but no `#` (35), which begins a fragment: a request has
+-- none (RFC 9112, section 3.2; RFC 3986, section 3.5)
 abbrev pub is_path_byte : ℕ → Bool
 is_path_byte byte = nat_le 33 byte && nat_le byte 126 && not (byte == 35)
 

@@ -86,7 +86,7 @@ coding_of values =
     else if is_gzip values then Some codings.Gzip
     else None
 
--- why a request is refused, if it is, where its body is of a type and a coding that are read, or not
+-- why a request is refused, if it is, where the type and the coding of its body are read, or not
 abbrev pub refusal_where : Bool → HttpPost → Option PostReply
 refusal_where is_read post =
     if not (is_for_traces post.target) then Some (plain_reply statuses.NotFound)
