@@ -62,7 +62,7 @@ returns g c =
     d.decision_is in
     let kept =
     held-as-named tracer a.parent
-    (string_bytes c.in_ok-name.field-0) c.args.name.now a.kind c.args.at
+    (string_bytes c.in_ok-name.name) c.args.name.now a.kind c.args.at
     (ids_view c.in-Some.decided.ids) (decision_of tracer a c.in-Some.decided.ids.trace.0)
     (λ e. c.in_ok-name.ensures.recorded (ap is_recording decision ∙ e)) in
     record {
