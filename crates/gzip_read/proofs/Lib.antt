@@ -1,0 +1,14 @@
+pub mod BitLaws
+pub mod CodeLaws
+pub mod Holding
+pub mod TableLaws
+pub mod CrcLaws
+pub mod Filling
+pub mod PrefixLaws
+pub mod Assigning
+pub mod SymbolLaws
+pub mod StepLaws
+pub mod LengthLaws
+pub mod BlockLaws
+pub mod FileLaws
+pub mod DynamicLaws

@@ -1,0 +1,4 @@
+pub mod Reading
+pub mod Tables
+pub mod Symbols
+pub mod Files
