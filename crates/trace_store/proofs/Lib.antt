@@ -1,6 +1,7 @@
 pub mod Puts
 pub mod Sums
 pub mod Evictions
+pub mod Fronts
 pub mod PartLemmas
 pub mod Digests
 pub mod Rooms

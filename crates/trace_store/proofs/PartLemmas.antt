@@ -21,7 +21,8 @@ use Rattle.trace_store.proofs.Sums.{sum_last, with_bytes, with_count}
 
 -- ---- which traces are there
 
-lookup_other : {X : Type 0} (k j : ℕ) (es : List (ℕ × X)) → nat_eq k j ≡ false
+-- A key other than the one that is taken out is found as before.
+pub lookup_other : {X : Type 0} (k j : ℕ) (es : List (ℕ × X)) → nat_eq k j ≡ false
     → lookup (nat_eq k) (remove_entry (nat_eq j) es) ≡ lookup (nat_eq k) es
 lookup_other k j [] ne = refl
 lookup_other k j (f ∷ es) ne = elim (cases_Bool (nat_eq j f.0)) [
@@ -31,7 +32,8 @@ lookup_other k j (f ∷ es) ne = elim (cases_Bool (nat_eq j f.0)) [
   | inr n ↦ rw n (ap (λ x. cond (nat_eq k f.0) (Some f.1) x) (lookup_other k j es ne))
 ]
 
-there_with : {S : Type 0} (es : List (ℕ × List S)) (k j : ℕ) (spans : List S)
+-- A trace that is there remains there when spans are added to any trace.
+pub there_with : {S : Type 0} (es : List (ℕ × List S)) (k j : ℕ) (spans : List S)
     → IsSome (lookup (nat_eq k) es) → IsSome (lookup (nat_eq k) (with_spans es j spans))
 there_with es k j spans h = elim (cases_Bool (nat_eq k j)) [
   | inl t ↦ rw t refl
@@ -45,7 +47,8 @@ are_there_with es [] j spans h = tt
 are_there_with es (p ∷ parts) j spans h =
     (there_with es p.0 j spans h.0, are_there_with es parts j spans h.1)
 
-there_after : {S : Type 0} (es : List (ℕ × List S)) (p : ℕ × List S) (k : ℕ)
+-- A trace that is there remains there when another one is put in front.
+pub there_after : {S : Type 0} (es : List (ℕ × List S)) (p : ℕ × List S) (k : ℕ)
     → IsSome (lookup (nat_eq k) es) → IsSome (lookup (nat_eq k) (p ∷ es))
 there_after es p k h = elim (cases_Bool (nat_eq k p.0)) [
   | inl t ↦ rw t refl

@@ -1,9 +1,12 @@
 -- The spans of a request, as they are kept.
 use Rattle.std.proofs.Common.{◌≡◌, refl, sym, ap, ap₂, subst, ◌∙◌, ℕ, ◌+◌, List, [], ◌∷◌, ◌++◌, map}
 use Rattle.std.proofs.Common.{length, arith, append_assoc, append-nil}
-use Rattle.std.specs.Option.{option_eq}
-use Rattle.std.specs.Prelude.{◌-◌, ◌^◌, All, IfOk, if◌then◌else◌, min, nat_eq, Option, Some, None}
-use Rattle.std.specs.Prelude.{Result, Ok, Err}
+use Rattle.std.specs.BTreeSet.{BTreeSet, contains}
+use Rattle.std.specs.BTreeMap.{is_at}
+use Rattle.std.specs.Ordering.{nat_cmp}
+use Rattle.std.specs.List.{list_any}
+use Rattle.std.specs.Prelude.{◌-◌, ◌^◌, All, Bool, IfOk, false, if◌then◌else◌, min}
+use Rattle.std.specs.Prelude.{Result, Ok, Err, true}
 use Rattle.std.specs.Arc.{arc_value}
 use Rattle.std.specs.List.{flat_map}
 use Rattle.std.specs.List.Sorted.{IsPermutation}
@@ -21,9 +24,10 @@ use Rattle.trace_store.specs.SpanParts.{entries_of, entries_of_part}
 use Rattle.trace_store.specs.Sizes.{at_most_64_bits, resource_bytes, scope_bytes}
 use Rattle.otlp_read.specs.declared.request.ResourceSpans.{ResourceSpans}
 use Rattle.otlp_read.specs.declared.request.ScopeSpans.{ScopeSpans}
-use Rattle.trace_store.specs.Requests.{Placed, IsOfOneTrace, key_of, keyed, keyed_of, placed_after}
-use Rattle.trace_store.specs.Requests.{placed_of, share_of, spans_of_parts, spans_of_resource}
-use Rattle.trace_store.specs.Requests.{spans_of_scope, trace_of}
+use Rattle.trace_store.specs.Requests.{IsOfOneTrace, Placed, TraceSet, and_spans, and_trace, key_of}
+use Rattle.trace_store.specs.Requests.{keyed, keyed_of, no_trace, placed_after, placed_of, share_of}
+use Rattle.trace_store.specs.Requests.{shares_of, spans_of_parts, spans_of_resource}
+use Rattle.trace_store.specs.Requests.{spans_of_scope, spans_of_scopes, trace_of}
 
 -- A kept span has the resource and the scope under which it was put.
 pub placed : {A : Type 0} (kept : Arc (ViewSpan A) A) (span : Span A)
@@ -60,36 +64,63 @@ kept_more old new key kept p push is =
     ap keyed_of push ∙ map-append (λ e. (e.0, placed_of e.1)) old ((key, kept) ∷ [])
     ∙ ap (λ e. keyed_of old ++ (key, e) ∷ []) is
 
--- The bytes counted with the next span are its share of the resource and the scope.
-pub counted : {A : Type 0} (r : ViewResource A) (s made : ViewScope A) (before : Option ℕ)
-    (trace size own bytes shared : ℕ)
+counted_by : (b c : Bool) (rb sb size own first second shared : ℕ) → size ≡ at_most_64_bits rb
+    → own ≡ at_most_64_bits sb → first ≡ (if b then 0 else size)
+    → second ≡ (if c then 0 else own) → shared ≡ min (first + second) (2 ^ 64 - 1)
+    → shared ≡ at_most_64_bits ((if b then 0 else rb) + (if c then 0 else sb))
+counted_by true true rb sb size own first second shared h k f s is = omega arith
+counted_by true false rb sb size own first second shared h k f s is = omega arith
+counted_by false true rb sb size own first second shared h k f s is = omega arith
+counted_by false false rb sb size own first second shared h k f s is = omega arith
+
+-- The bytes counted with the next span are its share of the resource and its share of the scope.
+pub counted : {A : Type 0} (r : ViewResource A) (s made : ViewScope A)
+    (of_resource of_scope : TraceSet) (trace size own first second shared : ℕ)
     → size ≡ at_most_64_bits (resource_bytes r) → own ≡ at_most_64_bits (scope_bytes made)
-    → s ≡ made → bytes ≡ min (size + own) (2 ^ 64 - 1)
-    → shared ≡ (if option_eq nat_eq before (Some trace) then 0 else bytes)
-    → shared ≡ share_of r s before trace
-counted r s made before trace size own bytes shared first second is sum share =
-    let all : bytes ≡ at_most_64_bits (resource_bytes r + scope_bytes s) =
-    omega (arith, first, second, ap scope_bytes is, sum) in
-    share ∙ ap (λ n. if option_eq nat_eq before (Some trace) then 0 else n) all
+    → s ≡ made → first ≡ share_of size of_resource trace → second ≡ share_of own of_scope trace
+    → shared ≡ min (first + second) (2 ^ 64 - 1)
+    → shared ≡ shares_of r s of_resource of_scope trace
+counted r s made of_resource of_scope trace size own first second shared h k is f g sum =
+    counted_by (of_resource trace) (of_scope trace) (resource_bytes r)
+    (scope_bytes s) size own first
+    second shared h (k ∙ ap (λ x. at_most_64_bits (scope_bytes x)) (sym is)) f g sum
 
 -- After the next span of a scope is appended, the rest of the scope completes the same list.
-pub next_placed : {A : Type 0} (r : ViewResource A) (s : ViewScope A) (before : Option ℕ)
+pub next_placed : {A : Type 0} (r : ViewResource A) (s : ViewScope A)
+    (of_resource of_scope of_resource' of_scope' : TraceSet)
     (rest rest' : List (Span A)) (x : Span A) (old new whole : List (ℕ × Placed A))
     (trace shared : ℕ)
-    → old ++ map keyed (placed_after r s before rest) ≡ whole → rest ≡ x ∷ rest'
-    → trace ≡ trace_of x → shared ≡ share_of r s before trace
+    → old ++ map keyed (placed_after r s of_resource of_scope rest) ≡ whole → rest ≡ x ∷ rest'
+    → trace ≡ trace_of x → shared ≡ shares_of r s of_resource of_scope trace
+    → of_resource' ≡ and_trace of_resource trace → of_scope' ≡ and_trace of_scope trace
     → new ≡ old ++ (trace, record { resource = r; scope = s; span = x; shared = shared }) ∷ []
-    → new ++ map keyed (placed_after r s (Some trace) rest') ≡ whole
-next_placed {A} r s before rest rest' x old new whole trace shared inv next same share push =
+    → new ++ map keyed (placed_after r s of_resource' of_scope' rest') ≡ whole
+next_placed {A} r s of_resource of_scope of_resource' of_scope' rest rest' x old new whole trace
+    shared inv next same share more_r more_s push =
     let q : ℕ → Placed A = λ n. record { resource = r; scope = s; span = x; shared = n } in
-    let one : (trace, q shared) ∷ map keyed (placed_after r s (Some trace) rest')
-    ≡ map keyed (placed_after r s before rest) =
-    ap₂ (λ t n. (t, q n) ∷ map keyed (placed_after r s (Some t) rest')) same
-    (share ∙ ap (share_of r s before) same)
-    ∙ sym (ap (λ l. map keyed (placed_after r s before l)) next) in
-    ap (λ l. l ++ map keyed (placed_after r s (Some trace) rest')) push
-    ∙ append_assoc old ((trace, q shared) ∷ []) (map keyed (placed_after r s (Some trace) rest'))
+    let left : List (ℕ × Placed A) = map keyed (placed_after r s of_resource' of_scope' rest') in
+    let sets : left
+    ≡ map keyed
+    (placed_after r s (and_trace of_resource trace) (and_trace of_scope trace) rest') =
+    ap₂ (λ a b. map keyed (placed_after r s a b rest')) more_r more_s in
+    let one : (trace, q shared) ∷ left ≡ map keyed (placed_after r s of_resource of_scope rest) =
+    ap (λ l. (trace, q shared) ∷ l) sets
+    ∙ ap₂ (λ t n. (t, q n)
+    ∷ map keyed (placed_after r s (and_trace of_resource t) (and_trace of_scope t) rest')) same
+    (share ∙ ap (shares_of r s of_resource of_scope) same)
+    ∙ sym (ap (λ l. map keyed (placed_after r s of_resource of_scope l)) next) in
+    ap (λ l. l ++ left) push ∙ append_assoc old ((trace, q shared) ∷ []) left
     ∙ ap (λ l. old ++ l) one ∙ inv
+
+-- After the next span, the traces so far and those of the rest are the same together.
+pub next_before : {A : Type 0} (before before' whole : TraceSet) (rest rest' : List (Span A))
+    (x : Span A) (trace : ℕ)
+    → and_spans before rest ≡ whole → rest ≡ x ∷ rest' → trace ≡ trace_of x
+    → before' ≡ and_trace before trace
+    → and_spans before' rest' ≡ whole
+next_before before before' whole rest rest' x trace inv next same more =
+    ap (λ b. and_spans b rest') more ∙ ap (λ t. and_spans (and_trace before t) rest') same
+    ∙ sym (ap (and_spans before) next) ∙ inv
 
 -- After one more item of a loop, the list ends with the entries of all items so far.
 pub some_pushed : {X Y Z : Type 0} (k : Y → Z) (f : X → List Y) (start old new : List Z)
@@ -106,24 +137,57 @@ some_pushed k f start old new done x before push =
 
 -- Once no span of a scope is left, all spans of the scope are appended.
 pub scope_done : {A : Type 0} (start now : List (ℕ × Placed A)) (r : ViewResource A)
-    (s : ViewScope A) (before : Option ℕ) (group : ScopeSpans A) (rest : List (Span A))
-    → now ++ map keyed (placed_after r s before rest)
-    ≡ start ++ map keyed (placed_after r s None group.spans.items)
+    (s : ViewScope A) (before of_resource of_scope : TraceSet) (group : ScopeSpans A)
+    (rest : List (Span A))
+    → now ++ map keyed (placed_after r s of_resource of_scope rest)
+    ≡ start ++ map keyed (placed_after r s before no_trace group.spans.items)
     → rest ≡ [] → s ≡ record { scope = group.scope; schema_url = group.schema_url }
-    → now ≡ start ++ map keyed (spans_of_scope r group)
-scope_done start now r s before group rest h ends is =
-    sym (append-nil now) ∙ ap (λ l. now ++ map keyed (placed_after r s before l)) (sym ends)
-    ∙ h ∙ ap (λ x. start ++ map keyed (placed_after r x None group.spans.items)) is
+    → now ≡ start ++ map keyed (spans_of_scope r before group)
+scope_done start now r s before of_resource of_scope group rest h ends is =
+    sym (append-nil now)
+    ∙ ap (λ l. now ++ map keyed (placed_after r s of_resource of_scope l)) (sym ends)
+    ∙ h ∙ ap (λ x. start ++ map keyed (placed_after r x before no_trace group.spans.items)) is
+
+-- Once no span of a scope is left, its traces are counted among those of the resource.
+pub before_done : {A : Type 0} (before whole : TraceSet) (rest : List (Span A))
+    → and_spans before rest ≡ whole → rest ≡ [] → before ≡ whole
+before_done before whole rest h ends = sym (ap (and_spans before) ends) ∙ h
+
+-- After the next scope of a resource is appended, the rest of the resource completes the same list.
+pub next_scope : {A : Type 0} (r : ViewResource A) (before before' : TraceSet)
+    (rest rest' : List (ScopeSpans A)) (group : ScopeSpans A) (old new whole : List (ℕ × Placed A))
+    → old ++ map keyed (spans_of_scopes r before rest) ≡ whole → rest ≡ group ∷ rest'
+    → new ≡ old ++ map keyed (spans_of_scope r before group)
+    → before' ≡ and_spans before group.spans.items
+    → new ++ map keyed (spans_of_scopes r before' rest') ≡ whole
+next_scope r before before' rest rest' group old new whole inv next push more =
+    let own = map keyed (spans_of_scope r before group) in
+    let left = map keyed (spans_of_scopes r before' rest') in
+    ap (λ l. l ++ left) push ∙ append_assoc old own left
+    ∙ ap (λ l. old ++ l)
+    (ap (λ b. own ++ map keyed (spans_of_scopes r b rest')) more
+    ∙ sym (map-append keyed (spans_of_scope r before group)
+    (spans_of_scopes r (and_spans before group.spans.items) rest'))
+    ∙ sym (ap (λ l. map keyed (spans_of_scopes r before l)) next))
+    ∙ inv
 
 -- Once no scope of a resource is left, all spans of the resource are appended.
 pub resource_done : {A : Type 0} (start now : List (ℕ × Placed A)) (r : ViewResource A)
-    (group : ResourceSpans A) (done : List (ScopeSpans A))
-    → now ≡ start ++ map keyed (flat_map (spans_of_scope r) done) → done ≡ group.scope_spans.items
-    → r ≡ record { resource = group.resource; schema_url = group.schema_url }
+    (before : TraceSet) (group : ResourceSpans A) (rest : List (ScopeSpans A))
+    → now ++ map keyed (spans_of_scopes r before rest)
+    ≡ start ++ map keyed (spans_of_scopes r no_trace group.scope_spans.items)
+    → rest ≡ [] → r ≡ record { resource = group.resource; schema_url = group.schema_url }
     → now ≡ start ++ map keyed (spans_of_resource group)
-resource_done start now r group done h ends is =
-    h ∙ ap (λ l. start ++ map keyed (flat_map (spans_of_scope r) l)) ends
-    ∙ ap (λ x. start ++ map keyed (flat_map (spans_of_scope x) group.scope_spans.items)) is
+resource_done start now r before group rest h ends is =
+    sym (append-nil now)
+    ∙ ap (λ l. now ++ map keyed (spans_of_scopes r before l)) (sym ends)
+    ∙ h ∙ ap (λ x. start ++ map keyed (spans_of_scopes x no_trace group.scope_spans.items)) is
+
+-- ---- the traces so far
+
+-- An empty set has no trace.
+pub empty_set : (set : BTreeSet ℕ) → set.keys ≡ [] → contains nat_cmp set ≡ no_trace
+empty_set set none = ap (λ keys q. list_any (is_at (nat_cmp q)) keys) none
 
 -- What holds of a result's value carries over to whatever follows from it.
 pub if_ok : {T E : Type 0} (P Q : T → Type 0) (r : Result T E) → ((x : T) → P x → Q x) → IfOk r P

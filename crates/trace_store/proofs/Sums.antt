@@ -74,7 +74,9 @@ found_sum f es k none =
     (of_found f (lookup (nat_eq k) es) none)
     ∙ sum_by-remove_entry f (nat_eq k) es
 
-with_sum : {S : Type 0} (f : List S → ℕ) (es : List (ℕ × List S)) (k : ℕ) (more : List S) → f [] ≡ 0
+-- A sum over traces with more spans of one of them is larger by that of these spans.
+pub with_sum : {S : Type 0} (f : List S → ℕ) (es : List (ℕ × List S)) (k : ℕ) (more : List S)
+    → f [] ≡ 0
     → f (spans_of es k ++ more) ≡ f (spans_of es k) + f more
     → sum_by f (values_of (with_spans es k more)) ≡ sum_by f (values_of es) + f more
 with_sum f es k more none adds =
@@ -87,6 +89,11 @@ with_sum f es k more none adds =
 pub spans_le : {S : Type 0} (es : List (ℕ × List S)) (k : ℕ)
     → length (spans_of es k) ≤ span_count es
 spans_le es k = omega (arith, found_sum length es k refl)
+
+-- A trace takes at most as many bytes as all traces together.
+pub bytes_le : {S : Type 0} (size : S → ℕ) (es : List (ℕ × List S)) (k : ℕ)
+    → sum_by size (spans_of es k) ≤ byte_count size es
+bytes_le size es k = omega (arith, found_sum (sum_by size) es k refl)
 
 -- Traces with more spans of one trace have that many more spans.
 pub with_count : {S : Type 0} (es : List (ℕ × List S)) (k : ℕ) (more : List S)

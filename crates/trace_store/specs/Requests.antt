@@ -1,7 +1,6 @@
 -- The spans of a request, each with its resource and its scope.
-use Rattle.std.specs.Prelude.{◌≡◌, ℕ, ◌+◌, if◌then◌else◌, List, [], ◌∷◌, All, map, nat_eq}
-use Rattle.std.specs.Prelude.{Option, Some, None}
-use Rattle.std.specs.Option.{option_eq}
+use Rattle.std.specs.Prelude.{◌≡◌, ℕ, ◌+◌, ◌++◌, ◌||◌, Bool, false, if◌then◌else◌, List, [], ◌∷◌}
+use Rattle.std.specs.Prelude.{All, map, nat_eq}
 use Rattle.std.specs.Arc.{arc_value}
 use Rattle.std.specs.List.{flat_map}
 use Rattle.otlp_read.specs.declared.request.Request.{Request}
@@ -27,34 +26,67 @@ pub record Placed (A : Type 0) : Type 0 where
 abbrev pub trace_of : {A : Type 0} → Span A → ℕ
 trace_of span = trace_key span.trace_id.items
 
--- What a span's resource and scope take is counted once for the spans of one trace that follow each
--- other: with the first of them. (profile)
-abbrev pub share_of : {A : Type 0} → ViewResource A → ViewScope A → Option ℕ → ℕ → ℕ
-share_of resource scope before trace =
-    if option_eq nat_eq before (Some trace) then 0
-    else at_most_64_bits (resource_bytes resource + scope_bytes scope)
+-- of which traces there were spans
+abbrev pub TraceSet : Type 0
+TraceSet = ℕ → Bool
 
--- spans under a resource and a scope, after one of this trace, if there was one
-abbrev pub placed_after : {A : Type 0} → ViewResource A → ViewScope A → Option ℕ → List (Span A)
-    → List (Placed A)
-placed_after resource scope before [] = []
-placed_after resource scope before (span ∷ spans) =
+abbrev pub no_trace : TraceSet
+no_trace trace = false
+
+-- these traces, and one more
+abbrev pub and_trace : TraceSet → ℕ → TraceSet
+and_trace before trace other = nat_eq other trace || before other
+
+-- these traces, and those of spans
+abbrev pub and_spans : {A : Type 0} → TraceSet → List (Span A) → TraceSet
+and_spans before [] = before
+and_spans before (span ∷ spans) = and_spans (and_trace before (trace_of span)) spans
+
+-- What spans share takes so many bytes: they are counted with the first span of each trace, so none
+-- with a span of a trace of which there were spans before. (profile)
+abbrev pub share_of : ℕ → TraceSet → ℕ → ℕ
+share_of bytes before trace = if before trace then 0 else bytes
+
+-- the shares of a resource and of a scope that are counted with a span of a trace, at most what 64
+-- bits hold
+abbrev pub shares_of : {A : Type 0} → ViewResource A → ViewScope A → TraceSet → TraceSet → ℕ → ℕ
+shares_of resource scope of_resource of_scope trace =
+    at_most_64_bits (share_of (resource_bytes resource) of_resource trace
+    + share_of (scope_bytes scope) of_scope trace)
+
+-- Spans under a resource and a scope, after spans of the resource, which are of some traces, and
+-- spans of the scope, of some of these. With each is counted its share of both.
+abbrev pub placed_after : {A : Type 0} → ViewResource A → ViewScope A → TraceSet → TraceSet
+    → List (Span A) → List (Placed A)
+placed_after resource scope of_resource of_scope [] = []
+placed_after resource scope of_resource of_scope (span ∷ spans) =
     record {
       resource = resource;
       scope = scope;
       span = span;
-      shared = share_of resource scope before (trace_of span);
-    } ∷ placed_after resource scope (Some (trace_of span)) spans
+      shared = shares_of resource scope of_resource of_scope (trace_of span);
+    } ∷ placed_after resource scope (and_trace of_resource (trace_of span))
+    (and_trace of_scope (trace_of span)) spans
 
--- those of a scope
-abbrev pub spans_of_scope : {A : Type 0} → ViewResource A → ScopeSpans A → List (Placed A)
-spans_of_scope resource group = placed_after resource
-    (record { scope = group.scope; schema_url = group.schema_url }) None group.spans.items
+-- those of a scope, after spans of its resource
+abbrev pub spans_of_scope : {A : Type 0} → ViewResource A → TraceSet → ScopeSpans A
+    → List (Placed A)
+spans_of_scope resource before group = placed_after resource
+    (record { scope = group.scope; schema_url = group.schema_url }) before no_trace
+    group.spans.items
+
+-- those of some scopes of a resource
+abbrev pub spans_of_scopes : {A : Type 0} → ViewResource A → TraceSet → List (ScopeSpans A)
+    → List (Placed A)
+spans_of_scopes resource before [] = []
+spans_of_scopes resource before (group ∷ groups) =
+    spans_of_scope resource before group
+    ++ spans_of_scopes resource (and_spans before group.spans.items) groups
 
 -- those of a resource
 abbrev pub spans_of_resource : {A : Type 0} → ResourceSpans A → List (Placed A)
-spans_of_resource group = flat_map
-    (spans_of_scope (record { resource = group.resource; schema_url = group.schema_url }))
+spans_of_resource group = spans_of_scopes
+    (record { resource = group.resource; schema_url = group.schema_url }) no_trace
     group.scope_spans.items
 
 -- those of a request (trace_service.proto: ExportTraceServiceRequest)

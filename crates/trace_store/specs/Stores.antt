@@ -1,8 +1,9 @@
 -- What a store of traces is.
 use Rattle.std.specs.Prelude.{◌≡◌, ◌⊎◌, ℕ, ◌+◌, ◌-◌, ◌^◌, ◌<◌, ◌≤◌, List, [], ◌∷◌, ◌++◌, length}
-use Rattle.std.specs.Prelude.{min, reverse}
+use Rattle.std.specs.Prelude.{All, Some, min, nat_eq, reverse}
+use Rattle.std.specs.Map.{lookup}
 use Rattle.circular_buffer.specs.Buffer.{keep_last}
-use Rattle.trace_store.specs.Traces.{byte_count, span_count, traces_of}
+use Rattle.trace_store.specs.Traces.{byte_count, joined_traces, span_count, spans_of, traces_of}
 
 -- The traces that are kept, the newest first; how many spans were received, and how many of them
 -- were evicted; how many traces were evicted, and which ones last, in the order in which they went.
@@ -28,6 +29,18 @@ pub record AreWithin {S : Type 0} (size : S → ℕ) (spans bytes : ℕ) (traces
     : Type 0 where
   pub spans_fit : span_count traces ≤ spans
   pub bytes_fit : byte_count size traces ≤ bytes
+
+-- A store has room for parts: the traces that they have spans of, each as it is with them, are
+-- together within its limits. (profile)
+abbrev pub HasRoom : {S : Type 0} → (S → ℕ) → Store S → List (ℕ × List S) → Type 0
+HasRoom size store parts =
+    AreWithin size store.max_spans store.max_bytes (joined_traces store.kept.traces parts)
+
+-- Each trace that parts have spans of is kept, with every span that it has among all traces.
+abbrev pub AreWhole : {S : Type 0} → List (ℕ × List S) → List (ℕ × List S) → List (ℕ × List S)
+    → Type 0
+AreWhole parts all kept =
+    All (λ part. lookup (nat_eq part.0) kept ≡ Some (spans_of all part.0)) parts
 
 -- These are the newest of all traces, and with the next one, if there is one, they would not be
 -- within the bounds.

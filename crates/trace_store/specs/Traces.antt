@@ -25,6 +25,11 @@ span_count traces = sum_by length (values_of traces)
 abbrev pub byte_count : {S : Type 0} → (S → ℕ) → List (ℕ × List S) → ℕ
 byte_count size traces = sum_by (sum_by size) (values_of traces)
 
+-- The traces that parts have spans of, each as it is with them: they come after those that it has.
+abbrev pub joined_traces : {S : Type 0} → List (ℕ × List S) → List (ℕ × List S)
+    → List (ℕ × List S)
+joined_traces traces parts = map (λ part. (part.0, spans_of traces part.0 ++ part.1)) parts
+
 -- The traces with the spans of several parts, each a trace and spans of it, one after another.
 abbrev pub with_parts : {S : Type 0} → List (ℕ × List S) → List (ℕ × List S) → List (ℕ × List S)
 with_parts traces [] = traces

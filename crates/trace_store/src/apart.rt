@@ -1,12 +1,13 @@
 //! A request, taken apart.
 
 ghost use Rattle.std.specs.Prelude.{◌≡◌, ℕ, ◌<◌, ◌∷◌, [], ◌++◌, All, IfOk, OnOk, length, map};
-ghost use Rattle.std.specs.Option.{option_eq};
-ghost use Rattle.std.specs.Prelude.{Some, if◌then◌else◌, nat_eq};
 ghost use Rattle.std.specs.Arc.{arc_value};
+ghost use Rattle.std.specs.BTreeSet.{contains};
 ghost use Rattle.std.specs.List.Sorted.{IsPermutation, IsStrictlyIncreasing};
+ghost use Rattle.std.specs.Ordering.{nat_cmp};
 ghost use Rattle.trace_store.specs.SpanParts.{keys_of};
-ghost use Rattle.trace_store.specs.Requests.{IsOfOneTrace, keyed_of, keyed};
+ghost use Rattle.trace_store.specs.Requests as spec;
+ghost use Rattle.trace_store.specs.Requests.{IsOfOneTrace, and_spans, and_trace, keyed_of, keyed};
 ghost use Rattle.trace_store.specs.Requests.{spans_of_parts, spans_of_request, spans_of_resource};
 ghost use Rattle.trace_store.specs.Requests.{spans_of_scope};
 ghost use Rattle.trace_store.specs.Sizes.{at_most_64_bits, resource_bytes};
@@ -18,17 +19,28 @@ use crate::span::{ViewResource, ViewScope, ViewSpan};
 use crate::span_size::{resource_size, scope_size};
 use otlp_read::{Request, ResourceSpans, ScopeSpans, Span};
 use std::alloc::{AllocError, Allocator};
+use std::collections::BTreeSet;
 use std::sync::Arc;
 
 /// A span, with the number of its trace.
 type Keyed<A> = (u128, Arc<ViewSpan<A>, A>);
 
-/// How many bytes of what a span shares are counted with it, after a span of this trace, if there
-/// was one.
-fn share_of(bytes: u64, before: Option<u128>, trace: u128) -> u64
-    ensures { result ≡ if option_eq nat_eq before (Some trace) then 0 else bytes }
+/// How many of the bytes that spans share are counted with one of this trace, after spans of other
+/// traces: all of them with the first of a trace.
+fn share_of<A: Allocator + Copy>(
+    bytes: u64,
+    before: &mut BTreeSet<u128, A>,
+    trace: u128,
+) -> Result<u64, AllocError>
+    ensures share { IfOk result (λ share.
+        share ≡ spec.share_of bytes (contains nat_cmp before.old) trace) }
+    ensures before { OnOk result (contains nat_cmp before.new
+        ≡ and_trace (contains nat_cmp before.old) trace) }
 {
-    if before == Some(trace) { 0 } else { bytes }
+    if before.insert(trace)? {
+        return Ok(bytes);
+    }
+    Ok(0)
 }
 
 /// Appends a span of this trace, with which this many bytes are counted of what it shares.
@@ -65,16 +77,21 @@ fn push_span<A: Allocator + Copy>(
     Ok(found.push((trace, kept))?)
 }
 
-/// Appends the spans of a scope, whose resource takes this many bytes.
+/// Appends the spans of a scope, whose resource takes this many bytes, after spans of the resource
+/// that are of these traces.
 fn push_scope<A: Allocator + Copy>(
     found: &mut Vec<Keyed<A>, A>,
     resource: &Arc<ViewResource<A>, A>,
     size: u64,
+    before: &mut BTreeSet<u128, A>,
     group: ScopeSpans<A>,
 ) -> Result<(), AllocError>
     requires { size ≡ at_most_64_bits (resource_bytes (arc_value resource.now)) }
-    ensures { OnOk result (keyed_of found.new.items ≡ keyed_of found.old.items
-        ++ map keyed (spans_of_scope (arc_value resource.now) group)) }
+    ensures found { OnOk result (keyed_of found.new.items ≡ keyed_of found.old.items
+        ++ map keyed
+        (spans_of_scope (arc_value resource.now) (contains nat_cmp before.old) group)) }
+    ensures before { OnOk result (contains nat_cmp before.new
+        ≡ and_spans (contains nat_cmp before.old) group.spans.items) }
 {
     let ScopeSpans {
         scope,
@@ -82,14 +99,15 @@ fn push_scope<A: Allocator + Copy>(
         schema_url,
     } = group;
     let scope = ViewScope { scope, schema_url };
-    let bytes = size.saturating_add(scope_size(&scope));
+    let own = scope_size(&scope);
     let scope = Arc::new(*found.allocator(), scope)?;
-    let mut before = None;
+    let mut before_here = BTreeSet::new(*found.allocator());
     for span in spans {
         let trace = trace_key(&span.trace_id);
-        let shared = share_of(bytes, before, trace);
+        let of_resource = share_of(size, before, trace)?;
+        let of_scope = share_of(own, &mut before_here, trace)?;
+        let shared = of_resource.saturating_add(of_scope);
         push_span(found, resource, &scope, span, trace, shared)?;
-        before = Some(trace);
     }
     Ok(())
 }
@@ -113,8 +131,9 @@ fn push_resource<A: Allocator + Copy>(
     };
     let size = resource_size(&resource);
     let resource = Arc::new(*found.allocator(), resource)?;
+    let mut before = BTreeSet::new(*found.allocator());
     for scope_group in scope_spans {
-        push_scope(found, &resource, size, scope_group)?;
+        push_scope(found, &resource, size, &mut before, scope_group)?;
     }
     Ok(())
 }
@@ -138,9 +157,9 @@ fn all_spans<A: Allocator + Copy>(
 /// Takes a request apart into the spans of each trace: a part for each trace that it has spans of,
 /// with at least one span, in the order of the traces' numbers. The spans of all parts are those of
 /// the request, each once and with its own resource and scope, which it shares with the others that
-/// came under them. (opentelemetry-proto, trace.proto: ResourceSpans, ScopeSpans) The bytes of what
-/// is shared are counted with the first of those spans of a scope that follow each other and are of
-/// one trace: so they are counted for each trace that keeps them. (profile)
+/// came under them. (opentelemetry-proto, trace.proto: ResourceSpans, ScopeSpans) The bytes of a
+/// resource are counted once for each trace that has spans under it, with the first of them, and so
+/// are those of a scope, whatever the order of the spans. (profile)
 ///
 /// It takes steps in proportion to n log n for n spans.
 ///

@@ -6,11 +6,13 @@ ghost use Rattle.circular_buffer.specs.Buffer.{keep_last};
 ghost use Rattle.trace_store.specs.Stores.{AreNewest, AreWithin, Evicts, IsAccounted};
 ghost use Rattle.trace_store.specs.Stores.{IsBounded, MakesRoom};
 ghost use Rattle.std.specs.List.Sorted.{IsPermutation};
-ghost use Rattle.trace_store.specs.Traces.{byte_count, span_count, with_parts, with_spans};
+ghost use Rattle.trace_store.specs.Traces.{byte_count, joined_traces, span_count, with_parts};
+ghost use Rattle.trace_store.specs.Traces.{with_spans};
 
 use crate::fold::Digest;
+use crate::joined::{bytes_with, is_at_most, joined_bytes, joined_spans, spans_with};
 use crate::parts::{Part, add_all, byte_total, span_total};
-use crate::size::{SpanSize, known_size, total_size};
+use crate::size::{SpanSize, total_size};
 use crate::spans::Trace;
 use crate::traces::{Traces, add, take_oldest};
 use circular_buffer::HeapCircularBuffer;
@@ -66,7 +68,8 @@ impl<S: SpanSize, D: Digest<S>, H: BuildHasher, A: Allocator> Model for Kept<S, 
         × (k.bytes ≡ byte_count S.size_of k.traces.entries)
         × (k.last_evicted.capacity ≡ 1000)
         × (length k.last_evicted.items ≤ 1000)
-        × (k.evicted_traces < 2 ^ 64) };
+        × (k.evicted_traces < 2 ^ 64)
+        × (k.bytes < 2 ^ 64) };
 }
 
 impl<S: SpanSize + Drop, D: Digest<S>, H: BuildHasher + Drop, A: Allocator + Copy> Kept<
@@ -142,6 +145,24 @@ impl<S: SpanSize + Drop, D: Digest<S>, H: BuildHasher + Drop, A: Allocator + Cop
         self.received - self.evicted <= limits.max_spans && self.bytes <= limits.max_bytes
     }
 
+    /// Whether the traces of parts are within limits with them.
+    pub(crate) fn has_room(&self, parts: &[Part<S, A>], limits: Limits) -> bool
+        ensures { IsTrue result ↔ AreWithin S.size_of limits.max_spans limits.max_bytes
+            (joined_traces self.now.traces parts.now) }
+    {
+        is_at_most(joined_spans(&self.traces, parts), limits.max_spans)
+            && is_at_most(joined_bytes(&self.traces, parts), limits.max_bytes)
+    }
+
+    /// Whether a trace is within limits with more spans.
+    pub(crate) fn has_room_for(&self, trace: u128, more: &LinkedList<S, A>, limits: Limits) -> bool
+        ensures { IsTrue result ↔ AreWithin S.size_of limits.max_spans limits.max_bytes
+            (joined_traces self.now.traces ((trace, more.now) ∷ [])) }
+    {
+        is_at_most(spans_with(&self.traces, trace, more), limits.max_spans)
+            && is_at_most(bytes_with(&self.traces, trace, more), limits.max_bytes)
+    }
+
     /// Receives spans of a trace, which is then the newest.
     pub(crate) fn insert(&mut self, trace: u128, spans: LinkedList<S, A>) -> Result<(), AllocError>
         ensures ok { OnOk result (self.new ≡ record self.old {
@@ -209,7 +230,7 @@ impl<S: SpanSize + Drop, D: Digest<S>, H: BuildHasher + Drop, A: Allocator + Cop
         };
         let spans = oldest.spans();
         self.evicted += spans.len() as u64;
-        self.bytes -= known_size(spans);
+        self.bytes -= oldest.bytes();
         self.evicted_traces = self.evicted_traces.saturating_add(1);
         self.last_evicted.push_back(trace);
     }

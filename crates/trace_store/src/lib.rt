@@ -5,7 +5,8 @@
 //! ([`SpanSize`]). It holds a limited number of spans, and of bytes: where there are more, the
 //! trace that got a span least recently goes whole. Its spans are counted, and the last 1,000 of
 //! such traces are named. So each span that was received is kept or counted as evicted, at every
-//! moment. With each trace it keeps a digest of its spans, so that a list of traces needs no walk
+//! moment. Spans are received only where their traces are within the limits with them
+//! ([`InsertFault`]), so none of them goes at once. With each trace it keeps a digest of its spans, so that a list of traces needs no walk
 //! over them.
 //!
 //! A [`ViewSpan`] is a span to be shown, with the resource and the scope that it shares with
@@ -16,8 +17,10 @@
 
 mod apart;
 mod facts;
+mod fault;
 mod fold;
 mod group;
+mod joined;
 mod kept;
 mod key;
 mod memory;
@@ -32,6 +35,7 @@ mod traces;
 
 pub use apart::take_apart;
 pub use facts::{end_of, is_error, names_none, service_of};
+pub use fault::InsertFault;
 pub use fold::Digest;
 pub use kept::Limits;
 pub use key::trace_key;

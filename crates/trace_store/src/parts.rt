@@ -46,7 +46,7 @@ pub(crate) fn byte_total<S: SpanSize, A: Allocator>(parts: &[Part<S, A>]) -> Opt
 }
 
 /// Takes out this many of the newest traces.
-fn take_back<S: Drop, D: Digest<S>, H: BuildHasher, A: Allocator>(
+fn take_back<S: SpanSize + Drop, D: Digest<S>, H: BuildHasher, A: Allocator>(
     traces: &mut Traces<S, D, H, A>,
     count: usize,
 )
@@ -58,7 +58,7 @@ fn take_back<S: Drop, D: Digest<S>, H: BuildHasher, A: Allocator>(
 }
 
 /// Adds a part if its trace is new, and else puts it to the others.
-fn add_part<S: Drop, D: Digest<S>, H: BuildHasher, A: Allocator + Copy>(
+fn add_part<S: SpanSize + Drop, D: Digest<S>, H: BuildHasher, A: Allocator + Copy>(
     traces: &mut Traces<S, D, H, A>,
     others: &mut Vec<DigestedPart<S, D, A>, A>,
     part: Part<S, A>,
@@ -80,7 +80,7 @@ fn add_part<S: Drop, D: Digest<S>, H: BuildHasher, A: Allocator + Copy>(
 }
 
 /// Adds the parts whose traces are new, and answers the others.
-fn add_new<S: Drop, D: Digest<S>, H: BuildHasher, A: Allocator + Copy>(
+fn add_new<S: SpanSize + Drop, D: Digest<S>, H: BuildHasher, A: Allocator + Copy>(
     traces: &mut Traces<S, D, H, A>,
     parts: Vec<Part<S, A>, A>,
 ) -> Result<Vec<DigestedPart<S, D, A>, A>, AllocError>
@@ -102,7 +102,7 @@ fn add_new<S: Drop, D: Digest<S>, H: BuildHasher, A: Allocator + Copy>(
 }
 
 /// Adds parts whose traces are there.
-fn add_others<S: Drop, D: Digest<S>, H: BuildHasher, A: Allocator + Copy>(
+fn add_others<S: SpanSize + Drop, D: Digest<S>, H: BuildHasher, A: Allocator + Copy>(
     traces: &mut Traces<S, D, H, A>,
     parts: Vec<DigestedPart<S, D, A>, A>,
 )
@@ -117,7 +117,7 @@ fn add_others<S: Drop, D: Digest<S>, H: BuildHasher, A: Allocator + Copy>(
 }
 
 /// Adds parts: those of new traces first.
-pub(crate) fn add_all<S: Drop, D: Digest<S>, H: BuildHasher, A: Allocator + Copy>(
+pub(crate) fn add_all<S: SpanSize + Drop, D: Digest<S>, H: BuildHasher, A: Allocator + Copy>(
     traces: &mut Traces<S, D, H, A>,
     parts: Vec<Part<S, A>, A>,
 ) -> Result<(), AllocError>

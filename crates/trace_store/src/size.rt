@@ -1,6 +1,6 @@
 //! How large spans are.
 
-ghost use Rattle.std.specs.Prelude.{◌≡◌, ◌^◌, ◌<◌, ◌≤◌, ℕ, MatchOption, sum_by};
+ghost use Rattle.std.specs.Prelude.{◌≡◌, ◌^◌, ◌≤◌, ℕ, MatchOption, sum_by};
 ghost use Rattle.std.specs.Arc.{arc_value};
 
 use std::alloc::Allocator;
@@ -35,12 +35,4 @@ pub(crate) fn total_size<S: SpanSize, A: Allocator>(spans: &LinkedList<S, A>) ->
         total = total.checked_add(span.size())?;
     }
     Some(total)
-}
-
-/// How many bytes spans take together, where that is below 2^64.
-pub(crate) fn known_size<S: SpanSize, A: Allocator>(spans: &LinkedList<S, A>) -> u64
-    requires { sum_by S.size_of spans.now < 2 ^ 64 }
-    ensures { result ≡ sum_by S.size_of spans.now }
-{
-    total_size(spans).unwrap_or(0)
 }

@@ -1,31 +1,36 @@
 //! The spans of a trace, with their digest.
 
-ghost use Rattle.std.specs.Prelude.{◌≡◌, ◌+◌, ◌^◌, ◌<◌, ◌++◌, [], IfOk, length};
+ghost use Rattle.std.specs.Prelude.{◌≡◌, ◌+◌, ◌^◌, ◌<◌, ◌++◌, [], IfOk, length, sum_by};
+ghost use Rattle.trace_store.specs.Sizes.{at_most_64_bits};
 
 use crate::fold::{Digest, digest_of};
+use crate::size::{SpanSize, total_size};
 use std::alloc::{AllocError, Allocator};
 use std::collections::LinkedList;
 use std::marker::Model;
 
-/// The spans of a trace, in the order in which they came, with the digest of them. A clause sees
-/// the spans.
+/// The spans of a trace, in the order in which they came, with the digest of them, and how many
+/// bytes they take. A clause sees the spans.
 #[derive(Drop)]
-pub struct Trace<S, D: Digest<S>, A: Allocator> {
+pub struct Trace<S: SpanSize, D: Digest<S>, A: Allocator> {
     spans: LinkedList<S, A>,
     digest: D,
+    bytes: u64,
 }
 
-impl<S, D: Digest<S>, A: Allocator> Model for Trace<S, D, A> {
-    ghost use Rattle.std.specs.Prelude.{◌≡◌, List};
+impl<S: SpanSize, D: Digest<S>, A: Allocator> Model for Trace<S, D, A> {
+    ghost use Rattle.std.specs.Prelude.{◌≡◌, List, sum_by};
+    ghost use Rattle.trace_store.specs.Sizes.{at_most_64_bits};
 
     ghost Value = { List S };
 
     ghost view = { λ t. t.spans };
 
-    ghost invariant = { λ t. t.digest ≡ D.digest_of t.spans };
+    ghost invariant = { λ t. (t.digest ≡ D.digest_of t.spans)
+        × (t.bytes ≡ at_most_64_bits (sum_by S.size_of t.spans)) };
 }
 
-impl<S, D: Digest<S>, A: Allocator> Trace<S, D, A> {
+impl<S: SpanSize, D: Digest<S>, A: Allocator> Trace<S, D, A> {
     /// The spans, in the order in which they came.
     pub fn spans(&self) -> &LinkedList<S, A>
         ensures { result.now ≡ self.now }
@@ -39,9 +44,16 @@ impl<S, D: Digest<S>, A: Allocator> Trace<S, D, A> {
     {
         &self.digest
     }
+
+    /// How many bytes the spans take, or 2^64 - 1 where that is more.
+    pub(crate) fn bytes(&self) -> u64
+        ensures { result ≡ at_most_64_bits (sum_by S.size_of self.now) }
+    {
+        self.bytes
+    }
 }
 
-impl<S: Drop, D: Digest<S>, A: Allocator + Copy> Trace<S, D, A> {
+impl<S: SpanSize + Drop, D: Digest<S>, A: Allocator + Copy> Trace<S, D, A> {
     /// A trace without spans.
     pub(crate) fn empty(alloc: A) -> Trace<S, D, A>
         ensures { result ≡ [] }
@@ -49,6 +61,7 @@ impl<S: Drop, D: Digest<S>, A: Allocator + Copy> Trace<S, D, A> {
         Trace {
             spans: LinkedList::new(alloc),
             digest: D::empty(),
+            bytes: 0,
         }
     }
 
@@ -57,7 +70,12 @@ impl<S: Drop, D: Digest<S>, A: Allocator + Copy> Trace<S, D, A> {
         ensures { IfOk result (λ trace. trace ≡ spans) }
     {
         let digest = digest_of(&spans)?;
-        Ok(Trace { spans, digest })
+        let bytes = total_size(&spans).unwrap_or(u64::MAX);
+        Ok(Trace {
+            spans,
+            digest,
+            bytes,
+        })
     }
 
     /// Adds more spans, after those that it has.
@@ -65,9 +83,14 @@ impl<S: Drop, D: Digest<S>, A: Allocator + Copy> Trace<S, D, A> {
         requires { length self.old + length more < 2 ^ 63 }
         ensures { self.new ≡ self.old ++ more }
     {
-        let Trace { mut spans, digest } = more;
+        let Trace {
+            mut spans,
+            digest,
+            bytes,
+        } = more;
         if self.spans.append(&mut spans).is_ok() {
             self.digest.append(digest);
+            self.bytes = self.bytes.saturating_add(bytes);
         }
     }
 }

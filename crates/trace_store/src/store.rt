@@ -1,14 +1,16 @@
 //! The store.
 
-ghost use Rattle.std.specs.Prelude.{◌≡◌, ◌+◌, ◌<◌, ℕ, List, [], All, IfOk, MatchOption, None, Some};
-ghost use Rattle.std.specs.Prelude.{OnErr, OnOk, length, nat_eq, option_copied};
+ghost use Rattle.std.specs.Prelude.{◌≡◌, ◌+◌, ◌<◌, ◌↔◌, ◌∷◌, ℕ, List, [], All, IfOk, IsErrOf};
+ghost use Rattle.std.specs.Prelude.{MatchOption, None, OnErr, OnOk, Some, length, nat_eq};
+ghost use Rattle.std.specs.Prelude.{option_copied};
 ghost use Rattle.std.specs.List.Sorted.{IsPermutation};
 ghost use Rattle.std.specs.Map.{lookup};
 ghost use Rattle.std.specs.List.{AllZip};
-ghost use Rattle.trace_store.specs.Stores.{AreNewest, AreWithin, Evicts, IsAccounted};
-ghost use Rattle.trace_store.specs.Stores.{MakesRoom};
+ghost use Rattle.trace_store.specs.Stores.{AreNewest, AreWhole, AreWithin, Evicts, HasRoom};
+ghost use Rattle.trace_store.specs.Stores.{IsAccounted, MakesRoom};
 ghost use Rattle.trace_store.specs.Traces.{span_count, with_parts, with_spans};
 
+use crate::fault::InsertFault;
 use crate::fold::Digest;
 use crate::kept::{Kept, Limits};
 use crate::parts::Part;
@@ -79,16 +81,22 @@ impl<S: SpanSize + Drop, D: Digest<S>, H: BuildHasher + Drop, A: Allocator + Cop
     }
 
     /// Receives spans of a trace, at least one. They come after those that it has, and the trace
-    /// is the newest then. Where the store holds too much with them, the oldest traces go whole,
-    /// as few as will do: the oldest is the one that got a span least recently. The spans' own
-    /// trace goes too, if it alone is too much. Traces that go are counted and named.
+    /// is the newest then, and is kept whole. Where the store holds too much with them, the oldest
+    /// other traces go whole, as few as will do: the oldest is the one that got a span least
+    /// recently. Traces that go are counted and named.
     ///
     /// # Errors
     ///
-    /// `AllocError` if memory was refused, or if a count would come to 2^63 spans or 2^64 bytes.
-    /// The store is then as it was. Memory is taken only for a trace that isn't there yet.
-    pub fn insert(&mut self, trace: u128, spans: LinkedList<S, A>) -> Result<(), AllocError>
+    /// `InsertFault::TooLarge` if the trace alone would be above a limit with these spans, and only
+    /// then; `InsertFault::OutOfMemory` if memory was refused, or if a count would come to 2^63
+    /// spans or 2^64 bytes. The store is then as it was, and no trace goes. Memory is taken only
+    /// for a trace that isn't there yet.
+    pub fn insert(&mut self, trace: u128, spans: LinkedList<S, A>) -> Result<(), InsertFault>
         requires { 0 < length spans }
+        ensures too_large { IsErrOf result InsertFault.TooLarge
+            ↔ ¬ HasRoom S.size_of self.old ((trace, spans) ∷ []) }
+        ensures whole { OnOk result (AreWhole ((trace, spans) ∷ [])
+            (with_spans self.old.kept.traces trace spans) self.new.kept.traces) }
         ensures received { OnOk result
             (self.new.kept.received ≡ self.old.kept.received + length spans) }
         ensures newest { OnOk result (AreNewest S.size_of self.old.max_spans self.old.max_bytes
@@ -102,6 +110,9 @@ impl<S: SpanSize + Drop, D: Digest<S>, H: BuildHasher + Drop, A: Allocator + Cop
         ensures max_bytes { self.new.max_bytes ≡ self.old.max_bytes }
         ensures refused { OnErr result (self.new ≡ self.old) }
     {
+        if !self.kept.has_room_for(trace, &spans, self.limits) {
+            return Err(InsertFault::TooLarge);
+        }
         self.kept.insert(trace, spans)?;
         self.kept.evict(self.limits);
         Ok(())
@@ -109,20 +120,27 @@ impl<S: SpanSize + Drop, D: Digest<S>, H: BuildHasher + Drop, A: Allocator + Cop
 
     /// Receives spans of several traces together, as those of one request: all, or none. Each part
     /// is a trace and spans of it, at least one. They are received as by `insert`, part by part and
-    /// in some order: traces that are new come first. Only then the oldest traces go.
+    /// in some order: traces that are new come first. Only then the oldest traces go, none of them
+    /// one of the parts'.
     ///
     /// # Errors
     ///
-    /// `AllocError` as `insert` has it, for all parts together. The store is then as it was.
-    pub fn insert_all(&mut self, parts: Vec<Part<S, A>, A>) -> Result<(), AllocError>
+    /// `InsertFault` as `insert` has it, for all parts together: it is `TooLarge` if the traces
+    /// that they have spans of would be above a limit together, each with its earlier spans and
+    /// these, and only then. (A trace that several parts have spans of counts once for each.) The
+    /// store is then as it was.
+    pub fn insert_all(&mut self, parts: Vec<Part<S, A>, A>) -> Result<(), InsertFault>
         requires { All (λ part. 0 < length part.1) parts.items }
+        ensures too_large { IsErrOf result InsertFault.TooLarge
+            ↔ ¬ HasRoom S.size_of self.old parts.items }
         ensures received { OnOk result
             (self.new.kept.received ≡ self.old.kept.received + span_count parts.items) }
         ensures newest { OnOk result
             ((order : List (ℕ × List S)) × IsPermutation parts.items order
             × AreNewest S.size_of self.old.max_spans self.old.max_bytes
             (with_parts self.old.kept.traces order) self.new.kept.traces
-            × Evicts (with_parts self.old.kept.traces order) self.old.kept self.new.kept) }
+            × Evicts (with_parts self.old.kept.traces order) self.old.kept self.new.kept
+            × AreWhole parts.items (with_parts self.old.kept.traces order) self.new.kept.traces) }
         ensures accounted { IsAccounted self.new.kept }
         ensures within { AreWithin S.size_of self.new.max_spans self.new.max_bytes
             self.new.kept.traces }
@@ -130,6 +148,9 @@ impl<S: SpanSize + Drop, D: Digest<S>, H: BuildHasher + Drop, A: Allocator + Cop
         ensures max_bytes { self.new.max_bytes ≡ self.old.max_bytes }
         ensures refused { OnErr result (self.new ≡ self.old) }
     {
+        if !self.kept.has_room(&parts, self.limits) {
+            return Err(InsertFault::TooLarge);
+        }
         self.kept.insert_all(parts)?;
         self.kept.evict(self.limits);
         Ok(())

@@ -7,6 +7,7 @@ ghost use Rattle.lru.specs.LruCache.{lru_cache};
 ghost use Rattle.trace_store.specs.Traces.{spans_of, with_spans};
 
 use crate::fold::Digest;
+use crate::size::SpanSize;
 use crate::spans::Trace;
 use lru::LruCache;
 use std::alloc::{AllocError, Allocator};
@@ -16,7 +17,7 @@ use std::hash::BuildHasher;
 pub(crate) type Traces<S, D, H, A> = LruCache<u128, Trace<S, D, A>, H, A>;
 
 /// Adds spans to a trace that is there.
-pub(crate) fn add_to<S: Drop, D: Digest<S>, H: BuildHasher, A: Allocator + Copy>(
+pub(crate) fn add_to<S: SpanSize + Drop, D: Digest<S>, H: BuildHasher, A: Allocator + Copy>(
     traces: &mut Traces<S, D, H, A>,
     trace: u128,
     spans: Trace<S, D, A>,
@@ -37,7 +38,7 @@ pub(crate) fn add_to<S: Drop, D: Digest<S>, H: BuildHasher, A: Allocator + Copy>
 }
 
 /// Puts a trace that isn't there.
-pub(crate) fn put_new<S: Drop, D: Digest<S>, H: BuildHasher, A: Allocator + Copy>(
+pub(crate) fn put_new<S: SpanSize + Drop, D: Digest<S>, H: BuildHasher, A: Allocator + Copy>(
     traces: &mut Traces<S, D, H, A>,
     trace: u128,
     spans: Trace<S, D, A>,
@@ -55,7 +56,7 @@ pub(crate) fn put_new<S: Drop, D: Digest<S>, H: BuildHasher, A: Allocator + Copy
 }
 
 /// Adds spans to their trace, which is then the first.
-pub(crate) fn add<S: Drop, D: Digest<S>, H: BuildHasher, A: Allocator + Copy>(
+pub(crate) fn add<S: SpanSize + Drop, D: Digest<S>, H: BuildHasher, A: Allocator + Copy>(
     traces: &mut Traces<S, D, H, A>,
     trace: u128,
     spans: Trace<S, D, A>,
@@ -73,7 +74,7 @@ pub(crate) fn add<S: Drop, D: Digest<S>, H: BuildHasher, A: Allocator + Copy>(
 }
 
 /// Takes out the oldest trace, which is the last.
-pub(crate) fn take_oldest<S, D: Digest<S>, H: BuildHasher, A: Allocator>(
+pub(crate) fn take_oldest<S: SpanSize, D: Digest<S>, H: BuildHasher, A: Allocator>(
     traces: &mut Traces<S, D, H, A>,
 ) -> Option<(u128, Trace<S, D, A>)>
     ensures { MatchOption result (traces.old.entries ≡ [])

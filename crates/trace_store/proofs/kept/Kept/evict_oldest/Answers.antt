@@ -5,15 +5,10 @@ use Rattle.trace_store.proofs.Evictions.{last_fits}
 use Rattle.trace_store.proofs.Sums.{sum_last}
 use Rattle.trace_store.proofs.kept.Kept.evict_oldest.Goals as goal
 
-pub known_size-requires : goal.known_size-requires
-known_size-requires g c =
-    let sized = sum_last (sum_by g.S.SpanSize.size_of) _ _ _ c.in-Some.oldest c.in-Some.ensures in
-    omega (arith, sized, ap (sum_by g.S.SpanSize.size_of) c.spans-spans.ensures, c.self.invariant.2)
-
 pub overflow_sub-self : goal.overflow_sub-self
 overflow_sub-self g c =
     let sized = sum_last (sum_by g.S.SpanSize.size_of) _ _ _ c.in-Some.oldest c.in-Some.ensures in
-    omega (arith, sized, ap (sum_by g.S.SpanSize.size_of) c.spans-spans.ensures, c.self.invariant.2)
+    omega (arith, sized, c.bytes.ensures, c.self.invariant.2, c.self.invariant.6)
 
 pub invariant_of-self-2 : goal.invariant_of-self-2
 invariant_of-self-2 g c =
@@ -31,15 +26,11 @@ invariant_of-self-2 g c =
     ) in (
       omega (arith, counted, ap length c.spans-spans.ensures, c.self.invariant.0),
       omega arith,
-      omega (
-        arith,
-        sized,
-        ap (sum_by g.S.SpanSize.size_of) c.spans-spans.ensures,
-        c.self.invariant.2,
-      ),
+      omega (arith, sized, c.bytes.ensures, c.self.invariant.2, c.self.invariant.6),
       ap (λ b. b.capacity) pushed ∙ c.self.invariant.3,
       fits,
       omega (arith, more),
+      omega (arith, c.self.invariant.6),
     )
 
 pub returns-clause-oldest : goal.returns-clause-oldest

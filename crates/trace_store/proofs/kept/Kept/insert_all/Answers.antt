@@ -35,4 +35,5 @@ invariant_of-self-2 g c =
       c.self.invariant.3,
       c.self.invariant.4,
       c.self.invariant.5,
+      omega arith,
     )
