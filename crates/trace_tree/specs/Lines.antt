@@ -5,20 +5,19 @@ use Rattle.std.specs.List.{flat_map}
 use Rattle.std.specs.Str.{chars}
 use Rattle.trace_tree.specs.Bars.{bar_of, earlier_start, end_of, later_end}
 use Rattle.trace_tree.specs.Words.{duration_text, error_text, name_text, place_text, shown_char}
-use Rattle.trace_tree.specs.declared.draw.TheConstants.{LABEL, DEEPEST}
 use Rattle.trace_tree.specs.declared.draw.Frame.{Frame}
 use Rattle.trace_tree.specs.declared.bars.Bar.{Bar}
 use Rattle.trace_tree.specs.declared.span.TreeSpan.{TreeSpan}
 use Rattle.trace_tree.specs.declared.span.Row.{Row}
 
--- how many columns a row is indented
+-- how many columns a row is indented: two for each row above it, for at most 12 of them (profile)
 abbrev pub indent : ℕ → ℕ
-indent depth = 2 * min depth DEEPEST
+indent depth = 2 * min depth 12
 
--- the name of a span, indented by its depth
+-- the name of a span, indented by its depth, in 40 columns (profile)
 unfoldable pub label_text : List ℕ → ℕ → List ℕ
 label_text name depth =
-    replicate (indent depth) 32 ++ name_text (LABEL - indent depth) (map shown_char (chars name))
+    replicate (indent depth) 32 ++ name_text (40 - indent depth) (map shown_char (chars name))
 
 -- a bar in its columns: spaces (32), `#` (35), spaces
 unfoldable pub bar_text : ℕ → Bar → List ℕ

@@ -1,15 +1,29 @@
 -- The words of a line.
-use Rattle.std.specs.Prelude.{ℕ, ◌-◌, ◌/◌, ◌%◌, Bool, true, false, nat_lt, nat_le, ◌&&◌}
+use Rattle.std.specs.Prelude.{ℕ, ◌-◌, ◌/◌, ◌%◌, Bool, true, false, nat_lt, nat_le, ◌||◌}
 use Rattle.std.specs.Prelude.{if◌then◌else◌, List, [], ◌∷◌, ◌++◌, length, take, replicate, codes}
 use Rattle.std.specs.Prelude.{decimal, encode_utf8_all}
-use Rattle.std.specs.List.{list_any}
-use Rattle.trace_tree.specs.declared.words.TheConstants.{HIDDEN}
+use Rattle.ucd_category.specs.GeneralCategory.{general_category}
+use Rattle.ucd_category.specs.declared.GeneralCategory.{GeneralCategory}
+use Rattle.ucd_category.specs.declared.GeneralCategory.TheVariants.{Control, Format}
+use Rattle.ucd_category.specs.declared.GeneralCategory.TheVariants.{LineSeparator}
+use Rattle.ucd_category.specs.declared.GeneralCategory.TheVariants.{ParagraphSeparator}
+use Rattle.ucd_derived.specs.Binary.{is_default_ignorable_code_point}
 use Rattle.trace_tree.specs.declared.span.Place.{Place}
 use Rattle.trace_tree.specs.declared.span.Place.TheVariants.{Root, Child, Orphan, Cycle}
 
--- a character that is no part of a line
+-- a character's General_Category (Unicode, section 4.5) by which it is no part of a line: Cc, Cf
+-- (those that turn the direction of text among them), Zl and Zp
+abbrev pub is_hidden_category : GeneralCategory → Bool
+is_hidden_category Control = true
+is_hidden_category Format = true
+is_hidden_category LineSeparator = true
+is_hidden_category ParagraphSeparator = true
+is_hidden_category _ = false
+
+-- a character that is no part of a line: by its category, or since it shows nothing
+-- (Default_Ignorable_Code_Point: Unicode, section 5.21)
 abbrev pub is_hidden_char : ℕ → Bool
-is_hidden_char c = list_any (λ (r : ℕ × ℕ). nat_le r.0 c && nat_le c r.1) HIDDEN
+is_hidden_char c = is_hidden_category (general_category c) || is_default_ignorable_code_point c
 
 -- what is shown of a character: `?` (63) for a hidden one
 abbrev pub shown_char : ℕ → ℕ

@@ -120,8 +120,9 @@ fn push_row<A: Allocator + Copy>(
 /// digits; and what else is to be said of it: `error`, `parent not received` or `cycle`.
 ///
 /// A name has 40 columns with its indentation, which is 24 columns at most. One that is longer is
-/// cut and ends in `~`. Each character counts as one column. Controls, separators of lines,
-/// characters without width and marks that turn the direction of text are shown as `?`.
+/// cut and ends in `~`. Each character counts as one column. Controls, separators of lines and of
+/// paragraphs, characters that format text, among them marks that turn its direction, and those
+/// that show nothing (Default_Ignorable_Code_Point) are shown as `?`, by the tables of Unicode 18.
 ///
 /// The bar of a span has at least one column, and is within the columns of all. A span that ends
 /// before it starts is shown as one that ends when it starts. A row whose span isn't in the list

@@ -3,12 +3,14 @@
 ghost use Rattle.std.specs.Prelude.{◌≡◌, ◌<◌, ◌≤◌, ◌++◌, IfOk, OnOk, encode_utf8_all, map};
 ghost use Rattle.std.specs.Prelude.{replicate, string_bytes};
 ghost use Rattle.std.specs.Str.{chars};
-ghost use Rattle.trace_tree.specs.Words.{duration_text, error_text, is_hidden_char, name_text};
-ghost use Rattle.trace_tree.specs.Words.{place_text, scaled, shown_char};
+ghost use Rattle.trace_tree.specs.Words.{duration_text, error_text, is_hidden_category};
+ghost use Rattle.trace_tree.specs.Words.{is_hidden_char, name_text, place_text, scaled, shown_char};
 
 use crate::span::Place;
 use otlp_ids::OutOfMemory;
 use std::alloc::Allocator;
+use ucd_category::GeneralCategory;
+use ucd_derived::is_default_ignorable_code_point;
 
 /// Appends this many spaces.
 pub(crate) fn push_spaces<A: Allocator>(
@@ -35,26 +37,25 @@ pub(crate) fn push_marks<A: Allocator>(out: &mut String<A>, count: usize) -> Res
     Ok(())
 }
 
-/// The first and the last of the characters that are no part of a line: controls, marks that turn
-/// the direction of text, separators of lines, and characters without width.
-const HIDDEN: [(u32, u32); 7] = [
-    (0, 0x1f),
-    (0x7f, 0x9f),
-    (0x61c, 0x61c),
-    (0x200b, 0x200f),
-    (0x2028, 0x202e),
-    (0x2060, 0x206f),
-    (0xfeff, 0xfeff),
-];
+/// Whether a character of this category is no part of a line: a control, one that formats text,
+/// such as a mark that turns its direction, or a separator of lines or paragraphs.
+fn is_hidden_category(category: GeneralCategory) -> bool
+    ensures { result ≡ is_hidden_category category }
+{
+    matches!(
+        category,
+        GeneralCategory::Control
+            | GeneralCategory::Format
+            | GeneralCategory::LineSeparator
+            | GeneralCategory::ParagraphSeparator
+    )
+}
 
-/// Whether a character is no part of a line.
+/// Whether a character is no part of a line: by its category, or since it shows nothing.
 fn is_hidden(ch: char) -> bool
     ensures { result ≡ is_hidden_char ch }
 {
-    let code = u32::from(ch);
-    HIDDEN
-        .iter()
-        .any(|(first, last)| *first <= code && code <= *last)
+    is_hidden_category(GeneralCategory::for_char(ch)) || is_default_ignorable_code_point(ch)
 }
 
 /// What is shown of a character: itself, or `?` where it is no part of a line.

@@ -71,8 +71,14 @@ fn the_spans_of_a_request(rt: HostRuntime) {
 fn times_that_run_backwards_and_cycles(rt: HostRuntime) {
     let spans = [
         span(b"f", b"g", "f", 3, 2),
-        span(b"g", b"h", "g", 2, 12_345_678_900),
-        span(b"h", b"g", "h", 2, 3),
+        span(
+            b"g",
+            b"h",
+            "g\u{ad}\u{200b}\u{2029}\u{3164}\u{fe0f}\u{e0041}",
+            2,
+            12_345_678_900,
+        ),
+        span(b"h", b"g", "h\u{a0}\u{301}\u{3b1}", 2, 3),
         span(b"i", b"i", "i", 0, u64::MAX),
     ];
     let text = text_of(rt.alloc(), &spans, 5).expect(&rt, "memory");
@@ -81,8 +87,8 @@ fn times_that_run_backwards_and_cycles(rt: HostRuntime) {
         text.as_str(),
         "\
 i                                        |#####| 18446744073s  cycle
-g                                        |#    | 12.3s  cycle
-  h                                      |#    | 0.00us
+g??????                                  |#    | 12.3s  cycle
+  h\u{a0}\u{301}\u{3b1}                                   |#    | 0.00us
   f                                      |#    | 0.00us
 ",
     );
