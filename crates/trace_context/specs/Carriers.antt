@@ -1,8 +1,10 @@
 -- Fields of a request that carry a context. (W3C Trace Context, Trace Context HTTP Headers Format;
 -- OpenTelemetry Specification, Propagators API)
-use Rattle.std.specs.Prelude.{◌≡◌, IsTrue, ℕ, Bool, if◌then◌else◌, List, [], ◌∷◌, map, flat_map}
-use Rattle.std.specs.Prelude.{bytes_eq, codes, Option, Some, None}
+use Rattle.std.specs.Prelude.{◌≡◌, ◌⊎◌, IsTrue, ℕ, Bool, true, false, if◌then◌else◌}
+use Rattle.std.specs.Prelude.{List, [], ◌∷◌, map, flat_map, bytes_eq, codes}
+use Rattle.std.specs.Prelude.{Option, Some, None}
 use Rattle.std.specs.Char.{to_ascii_lowercase}
+use Rattle.model_span.specs.Attributes.{is_empty}
 use Rattle.model_span.specs.Spans.{Context, is_valid}
 use Rattle.text_words.specs.Words.{◌>>=◌}
 use Rattle.trace_context.specs.Traceparent.{traceparent}
@@ -54,6 +56,13 @@ outgoing c =
     if is_valid c
     then (codes "traceparent", traceparent_text c) ∷ state_fields (tracestate (c.state ∷ []))
     else []
+
+-- Why memory for the fields of a context may be refused: it is valid, and has a trace state, or the
+-- carrier may refuse its `traceparent`. (profile)
+abbrev pub OutgoingTakesMemory : (List ℕ → List ℕ → Type 0) → Context → Type 0
+OutgoingTakesMemory refuses c =
+    (is_valid c ≡ true)
+    × ((is_empty c.state ≡ false) ⊎ refuses (codes "traceparent") (traceparent_text c))
 
 -- What goes out of a valid context whose trace state is in its normal form is read as that context.
 -- (Propagators API, Inject, Extract)

@@ -1,8 +1,9 @@
 //! Fields of a request that carry a context.
 
 ghost use Rattle.std.specs.Prelude.{◌≡◌, ◌⊎◌, ◌<◌, ◌++◌, ◌∷◌, [], IfOk, OnErr, OnOk};
-ghost use Rattle.std.specs.Prelude.{codes, length, map};
+ghost use Rattle.std.specs.Prelude.{codes, false, length, map, ℕ, ⊤};
 ghost use Rattle.std.specs.Prelude.{List, option_map, slice_index_or, string_bytes};
+ghost use Rattle.model_span.specs.Attributes.{is_empty};
 ghost use Rattle.otlp_ids.specs.SpanContext.{context_view};
 ghost use Rattle.trace_context.specs.Carriers as spec;
 ghost use Rattle.trace_context.specs.Carriers.{ContextsAreReadBack, Field};
@@ -52,6 +53,10 @@ pub trait Injector {
     /// The name and the value of each field, in order.
     ghost fields: { Self → List Field };
 
+    /// From this state, memory for a field of this name and this value may be refused. An `impl`
+    /// says so, if it can say that.
+    ghost refuses: { Self → List ℕ → List ℕ → Type 0 } = { λ _ _ _. ⊤ };
+
     /// Adds a field after the others.
     ///
     /// # Errors
@@ -60,7 +65,8 @@ pub trait Injector {
     fn set(&mut self, name: &str, value: &[u8]) -> Result<(), OutOfMemory>
         ensures added { OnOk result
             (fields self.new ≡ fields self.old ++ (name.now, value.now) ∷ []) }
-        ensures refused { OnErr result (fields self.new ≡ fields self.old) };
+        ensures refused { OnErr result (fields self.new ≡ fields self.old) }
+        ensures memory { OnErr result (refuses self.old name.now value.now) };
 }
 
 /// Whether two names are the same; letters count in either case.
@@ -160,10 +166,30 @@ fn set_state<C: Injector>(carrier: &mut C, state: &[u8]) -> Result<(), OutOfMemo
     ensures added { OnOk result
         (C.fields carrier.new ≡ C.fields carrier.old ++ spec.state_fields state.now) }
     ensures refused { OnErr result (C.fields carrier.new ≡ C.fields carrier.old) }
+    ensures memory { OnErr result (is_empty state.now ≡ false) }
 {
     match state {
         [] => Ok(()),
         _ => carrier.set(TRACESTATE, state),
+    }
+}
+
+/// What of a context's trace state goes out.
+///
+/// # Errors
+///
+/// `OutOfMemory` where memory was refused. A trace state that is empty takes none.
+fn state_of<A: Allocator + Copy>(
+    alloc: A,
+    context: &SpanContext<A>,
+) -> Result<String<A>, OutOfMemory>
+    ensures read { IfOk result (λ state. string_bytes state
+        ≡ tracestate ((context_view context.now).state ∷ [])) }
+    ensures memory { OnErr result (is_empty (context_view context.now).state ≡ false) }
+{
+    match context.state.as_bytes() {
+        [] => Ok(String::new(alloc)),
+        state => read_tracestate(alloc, &[state]),
     }
 }
 
@@ -173,7 +199,9 @@ fn set_state<C: Injector>(carrier: &mut C, state: &[u8]) -> Result<(), OutOfMemo
 ///
 /// # Errors
 ///
-/// `OutOfMemory` where memory was refused: then no field was added, or `traceparent` alone.
+/// `OutOfMemory` where memory was refused: then no field was added, or `traceparent` alone. An
+/// invalid context takes no memory; a valid one whose trace state is empty only what the carrier
+/// takes for `traceparent`.
 #[tactic(auto, unfolding(crate::specs::Carriers::outgoing))]
 pub fn inject<C: Injector, A: Allocator + Copy>(
     alloc: A,
@@ -185,11 +213,13 @@ pub fn inject<C: Injector, A: Allocator + Copy>(
     ensures refused { OnErr result ((C.fields carrier.new ≡ C.fields carrier.old)
         ⊎ (C.fields carrier.new ≡ C.fields carrier.old
         ++ (codes "traceparent", traceparent_text (context_view context.now)) ∷ [])) }
+    ensures memory { OnErr result (spec.OutgoingTakesMemory (C.refuses carrier.old)
+        (context_view context.now)) }
 {
     if !context.is_valid() {
         return Ok(());
     }
-    let state = read_tracestate(alloc, &[context.state.as_bytes()])?;
+    let state = state_of(alloc, context)?;
     let mut text = [0; 55];
     write_traceparent(context, &mut text);
     carrier.set(TRACEPARENT, &text)?;
@@ -198,7 +228,7 @@ pub fn inject<C: Injector, A: Allocator + Copy>(
 }
 
 /// What [`inject`] adds of a valid context, [`extract`] reads as that context: as a remote one, and
-/// with the sampled flag alone of its flags. Its trace state has to be in the form that
+/// with the sampled and the random flag alone of its flags. Its trace state has to be in the form that
 /// [`read_tracestate`] gives.
 pub fn contexts_are_read_back()
     ensures { ContextsAreReadBack }

@@ -4,8 +4,6 @@ ghost use Rattle.std.specs.Prelude.{◌≡◌};
 ghost use Rattle.std.specs.List.{list_all};
 ghost use Rattle.trace_context.specs.Keys as spec;
 
-use text_words::around_first;
-
 /// Whether a byte is a letter in lower case.
 fn is_lower_letter(byte: u8) -> bool
     ensures { result ≡ spec.is_lower_letter byte }
@@ -31,6 +29,7 @@ fn is_key_byte(byte: u8) -> bool
         || byte == b'-'
         || byte == b'*'
         || byte == b'/'
+        || byte == b'@'
 }
 
 /// Whether each byte may be there.
@@ -40,41 +39,18 @@ fn are_key_bytes(bytes: &[u8]) -> bool
     bytes.iter().all(|byte| is_key_byte(*byte))
 }
 
-/// Whether these are a letter, and up to this many bytes of a key after it.
-#[tactic(auto, unfolding(crate::specs::Keys::is_name))]
-fn is_name(most: usize, text: &[u8]) -> bool
-    ensures { result ≡ spec.is_name most text.now }
-{
-    match text {
-        [] => false,
-        [first, rest @ ..] => {
-            is_lower_letter(*first) && rest.len() <= most && are_key_bytes(rest)
-        }
-    }
-}
-
-/// Whether these are a letter or a digit, and up to 240 bytes of a key after it.
-#[tactic(auto, unfolding(crate::specs::Keys::is_tenant))]
-fn is_tenant(text: &[u8]) -> bool
-    ensures { result ≡ spec.is_tenant text.now }
-{
-    match text {
-        [] => false,
-        [first, rest @ ..] => {
-            let begins = is_lower_letter(*first) || is_digit(*first);
-            begins && rest.len() <= 240 && are_key_bytes(rest)
-        }
-    }
-}
-
-/// Whether this is a key.
-#[tactic(auto, unfolding(crate::specs::Keys::is_key_around))]
+/// Whether this is a key: a letter in lower case or a digit, and up to 255 bytes of a key after it
+/// (W3C Trace Context level 2, "key").
+#[tactic(auto, unfolding(crate::specs::Keys::is_key))]
 pub(crate) fn is_key(key: &[u8]) -> bool
     ensures { result ≡ spec.is_key key.now }
 {
-    match around_first(b'@', key) {
-        None => is_name(255, key),
-        Some((tenant, system)) => is_tenant(tenant) && is_name(13, system),
+    match key {
+        [] => false,
+        [first, rest @ ..] => {
+            let begins = is_lower_letter(*first) || is_digit(*first);
+            begins && rest.len() <= 255 && are_key_bytes(rest)
+        }
     }
 }
 

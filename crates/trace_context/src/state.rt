@@ -137,8 +137,9 @@ fn text_or_nothing<A: Allocator + Copy>(alloc: A, bytes: Vec<u8, A>) -> String<A
 /// (W3C Trace Context, "Tracestate Header"): their entries, without the blanks around them and
 /// without empty ones, joined by commas.
 ///
-/// It is empty where an entry isn't a key, `=` and a value by the standard's grammar, where a key
-/// comes twice, or where there are more than 32 entries: then nothing of it counts.
+/// It is empty where an entry isn't a key, `=` and a value by the standard's grammar (level 2: a key
+/// is 1 to 256 bytes, the first a letter or a digit), where a key comes twice, or where there are
+/// more than 32 entries: then nothing of it counts.
 ///
 /// # Errors
 ///
