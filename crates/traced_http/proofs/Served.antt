@@ -27,25 +27,29 @@ none-ends : (pairs : List Attribute) (more : List Call) → list_any is_end more
 none-ends [] more h = h
 none-ends (p ∷ pairs) more h = none-ends pairs more h
 
-module _ {S H P R : Type 0} (meaning : S → SamplerMeaning) (stream : R → Stream)
+module _ {S H P R C : Type 0} (meaning : S → SamplerMeaning) (stream : R → Stream)
+    (tells : C → ℕ → Type 0)
     (routes : H → Request (List ℕ) → Option (List ℕ) → Type 0) (answers : Answers H P)
     (admits : P → SpanData → Ended → P → Type 0) where
   -- it has ended
-  traced-is : (old new : Serving S H P R) (request : Request (List ℕ)) (response : Response)
+  traced-is : (old new : Serving S H P R C) (request : Request (List ℕ)) (response : Response)
       (after : P) (route : Option (List ℕ)) (begun at : ℕ) (lent left : HeldSpan)
+      → tells old.clock begun → tells old.clock at
       → routes old.handler request route
       → HasStarted (tracer_view meaning old.tracer) (stream old.rng)
       (stream new.rng) route old.server request begun lent
       → GoesOn lent left
       → EndsAs admits (ending_calls (ending_of response.status)) at left after new.pass
       → new.untraced ≡ old.untraced
-      → IsTraced meaning stream routes answers admits old request
+      → IsTraced meaning stream tells routes answers admits old request
       (Some lent) response after (Some left) new
-  traced-is old new request response after route begun at lent left r h g e n = record {
+  traced-is old new request response after route begun at lent left b t r h g e n = record {
     route = route;
     routed = r;
     begun = begun;
+    begun_told = b;
     ended = at;
+    ended_told = t;
     s = h.s;
     started = h.started;
     spent = h.spent;
@@ -63,9 +67,10 @@ module _ {S H P R : Type 0} (meaning : S → SamplerMeaning) (stream : R → Str
       now = g.does.value h.s (request_calls route old.server request) h.held
 
   -- A traced server answers a request, and hands over its span or counts the request as untraced.
-  pub serves : (old new : Serving S H P R) (request : Request (List ℕ)) (response : Response)
+  pub serves : (old new : Serving S H P R C) (request : Request (List ℕ)) (response : Response)
       (after : P) (route : Option (List ℕ)) (begun at : ℕ) (lent : Option HeldSpan)
       (left : LentSpan) (has_ended : Bool)
+      → tells old.clock begun → tells old.clock at
       → routes old.handler request route
       → HasStartedOrNone (tracer_view meaning old.tracer) (stream old.rng)
       (stream new.rng) route old.server request begun lent
@@ -78,10 +83,10 @@ module _ {S H P R : Type 0} (meaning : S → SamplerMeaning) (stream : R → Str
       → (has_ended ≡ false → new.pass ≡ after)
       → new.untraced ≡ (if has_ended then old.untraced else counted_requests (old.untraced + 1))
       → new.left_out ≡ counted (old.left_out + left.left_out)
-      → new.tracer ≡ old.tracer → new.server ≡ old.server
-      → Serves meaning stream routes answers admits old request response new
-  serves old new request response after route begun at lent left has_ended r started goes answered
-      ends none counted_as left_out t v =
+      → new.tracer ≡ old.tracer → new.clock ≡ old.clock → new.server ≡ old.server
+      → Serves meaning stream tells routes answers admits old request response new
+  serves old new request response after route begun at lent left has_ended begun_told ended_told r
+      started goes answered ends none counted_as left_out t k v =
       record {
         lent = lent;
         after = after;
@@ -90,6 +95,7 @@ module _ {S H P R : Type 0} (meaning : S → SamplerMeaning) (stream : R → Str
         traced = by has_ended ends none counted_as;
         left_out = left_out;
         tracer = t;
+        clock = k;
         server = v;
       }
     where
@@ -99,13 +105,13 @@ module _ {S H P R : Type 0} (meaning : S → SamplerMeaning) (stream : R → Str
           → GoesOnIfAny x y
           → EndsAs admits (ending_calls (ending_of response.status)) at held after new.pass
           → new.untraced ≡ old.untraced
-          → IsTraced meaning stream routes answers admits old request x response after y new
+          → IsTraced meaning stream tells routes answers admits old request x response after y new
       with-span None None held h s g e n = cc
       with-span (Some x) None held h s g e n = absurd g
       with-span None (Some y) held h s g e n = absurd g
       with-span (Some x) (Some y) held h s g e n =
           let same : y ≡ held = cc in
-          traced-is old new request response after route begun at x y r s g
+          traced-is old new request response after route begun at x y begun_told ended_told r s g
           (subst (λ z. EndsAs admits (ending_calls (ending_of response.status)) at z after new.pass)
           (sym same) e)
           n
@@ -116,15 +122,16 @@ module _ {S H P R : Type 0} (meaning : S → SamplerMeaning) (stream : R → Str
           × EndsAs admits (ending_calls (ending_of response.status)) at held after new.pass)
           → (b ≡ false → new.pass ≡ after)
           → new.untraced ≡ (if b then old.untraced else counted_requests (old.untraced + 1))
-          → IsTraced meaning stream routes answers admits old request lent response after left.span
+          → IsTraced meaning stream tells routes answers admits old request lent response after left.span
           new
-          ⊎ IsUntraced meaning stream routes answers admits old request lent after new
+          ⊎ IsUntraced meaning stream tells routes answers admits old request lent after new
       by true e u n = let h = e refl in inl (with-span lent left.span h.0 h.1 started goes h.2 n)
       by false e u n =
           inr (record {
             route = route;
             routed = r;
             begun = begun;
+            begun_told = begun_told;
             lent_is = started;
             untouched = u refl;
             untraced = n;

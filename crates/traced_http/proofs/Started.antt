@@ -1,6 +1,6 @@
 -- A span that starts with attributes and no links, and one that ends with what came of its request.
 use Rattle.std.proofs.Common.{◌≡◌, refl, ap, subst, ◌∙◌, ℕ, Bool, true, List, [], ◌++◌, map, Option}
-use Rattle.std.proofs.Common.{Some}
+use Rattle.std.proofs.Common.{None, Some}
 use Rattle.std.proofs.Common.{Result, Ok, Err, IfErr, IfOk}
 use Rattle.std.proofs.lemmas.List.{append-nil}
 use Rattle.rand_core.specs.Stream.{Stream}
@@ -40,16 +40,24 @@ pub starts-none : (tracer : Tracer) (old new : Stream) (parent : Option Context)
     → StartsWith (started_span tracer (start_request parent name kind at) (words_of old))
     (map set_attribute pairs ++ []) result
     → Spends (ids_words (valid_parent parent)) old new
-    → IfErr result (λ fault. StartsNone tracer old new parent name kind at)
+    → IfErr result (StartsNone tracer old new parent name kind at)
 starts-none tracer old new parent name kind pairs at (Ok span) h spent = tt
-starts-none tracer old new parent name kind pairs at (Err NoRandomness) h spent = zeros h spent
+starts-none tracer old new parent name kind pairs at (Err NoRandomness) h spent = zeros h spent refl
 starts-none tracer old new parent name kind pairs at (Err OutOfMemory) h spent =
-    refused h.0 h.1 h.2 spent
+    refused h.0 h.1 h.2 spent refl
 
--- Before the identifiers are drawn, the generator has given no word.
+-- Before the identifiers are drawn, the generator has given no word, and memory was refused.
 pub starts_undrawn : (tracer : Tracer) (stream : Stream) (parent : Option Context) (name : List ℕ)
-    (kind : Kind) (at : ℕ) → StartsNone tracer stream stream parent name kind at
-starts_undrawn tracer stream parent name kind at = undrawn refl
+    (kind : Kind) (at : ℕ) (fault : StartFault) → fault ≡ OutOfMemory
+    → StartsNone tracer stream stream parent name kind at fault
+starts_undrawn tracer stream parent name kind at fault is = undrawn refl is
+
+-- Where a start is refused, there is no span, for some reason.
+pub starts_none : (tracer : Tracer) (old new : Stream) (parent : Option Context) (name : List ℕ)
+    (kind : Kind) (pairs : List Attribute) (at : ℕ) (fault : StartFault)
+    → StartsNone tracer old new parent name kind at fault
+    → StartsIfAny tracer old new parent name kind pairs at None
+starts_none tracer old new parent name kind pairs at fault h = (fault, h)
 
 -- A span has started, also where the request is sent without it.
 pub starts_with : (tracer : Tracer) (old new : Stream) (parent : Option Context) (name : List ℕ)

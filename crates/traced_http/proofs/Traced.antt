@@ -32,33 +32,36 @@ context-is : (s : StartedSpan) (calls : List Call) (held : HeldSpan) → held �
 unfolding held_span
 context-is s calls held h = ap (λ (x : HeldSpan). x.context) h
 
-module _ {S R D P : Type 0} (meaning : S → SamplerMeaning) (stream : R → Stream)
-    (admits : P → SpanData → Ended → P → Type 0) where
+module _ {S R C D P : Type 0} (meaning : S → SamplerMeaning) (stream : R → Stream)
+    (tells : C → ℕ → Type 0) (admits : P → SpanData → Ended → P → Type 0) where
   -- the span of a request has started
-  starts-is : (old new : ClientWith S R D) (parent : Option Context) (method : List ℕ)
+  starts-is : (old new : ClientWith S R C D) (parent : Option Context) (method : List ℕ)
       (address : Address) (begun : ℕ)
       (held : HeldSpan)
+      → tells old.clock begun
       → (h : HasStarted (tracer_view meaning old.tracer) (stream old.rng)
       (stream new.rng) parent method address begun held)
-      → Starts meaning stream admits old parent method h.s new
-  starts-is old new parent method address begun held h =
-      record { begun = begun; started = h.started; spent = h.spent }
+      → Starts meaning stream tells admits old parent method h.s new
+  starts-is old new parent method address begun held b h =
+      record { begun = begun; begun_told = b; started = h.started; spent = h.spent }
 
   -- it has ended
-  traced-is : (old new : ClientWith S R D) (parent : Option Context) (method : List ℕ)
+  traced-is : (old new : ClientWith S R C D) (parent : Option Context) (method : List ℕ)
       (address : Address)
       (before after : P) (result : Result HttpReply SendFault) (begun at : ℕ) (held : HeldSpan)
+      → tells old.clock begun → tells old.clock at
       → HasStarted (tracer_view meaning old.tracer) (stream old.rng)
       (stream new.rng) parent method address begun held
       → EndsAs admits (closing_calls result) at held before after
       → new.untraced ≡ old.untraced
-      → IsTraced meaning stream admits old parent method address
+      → IsTraced meaning stream tells admits old parent method address
       (Some held.context) before result new after
-  traced-is old new parent method address before after result begun at held h e n = record {
+  traced-is old new parent method address before after result begun at held b t h e n = record {
     s = h.s;
-    starts = starts-is old new parent method address begun held h;
+    starts = starts-is old new parent method address begun held b h;
     is_carried = ap Some (context-is h.s (request_calls method address) held h.held);
     ended = at;
+    ended_told = t;
     handed =
         e.value h.s (request_calls method address) h.held
         (none-ends (request_pairs method address));
@@ -67,10 +70,11 @@ module _ {S R D P : Type 0} (meaning : S → SamplerMeaning) (stream : R → Str
 
   -- A traced client gets its result, and hands over the request's span or counts the request as
   -- untraced.
-  pub sends : (asks : Asks D) (old new : ClientWith S R D) (parent : Option Context)
+  pub sends : (asks : Asks D) (old new : ClientWith S R C D) (parent : Option Context)
       (method : List ℕ) (address : Address)
       (before after : P) (result : Result HttpReply SendFault) (begun at : ℕ)
       (span made : Option HeldSpan) (fields : List Field) (has_ended : Bool)
+      → tells old.clock begun → tells old.clock at
       → HasStartedOrNone (tracer_view meaning old.tracer) (stream old.rng)
       (stream new.rng) parent method address begun made
       → (span ≡ None) ⊎ (span ≡ made)
@@ -81,15 +85,16 @@ module _ {S R D P : Type 0} (meaning : S → SamplerMeaning) (stream : R → Str
       × EndsAs admits (closing_calls result) at held before after)
       → (has_ended ≡ false → after ≡ before)
       → new.untraced ≡ (if has_ended then old.untraced else counted_requests (old.untraced + 1))
-      → new.tracer ≡ old.tracer
-      → Sends meaning stream admits asks old parent method address before result new after
+      → new.tracer ≡ old.tracer → new.clock ≡ old.clock
+      → Sends meaning stream tells admits asks old parent method address before result new after
   sends asks old new parent method address before after result begun at span made fields has_ended
-      started sent_with carried asked ends none counted tracer =
+      begun_told ended_told started sent_with carried asked ends none counted tracer clock =
       record {
         context = option_map (λ (held : HeldSpan). held.context) span;
         asked = subst (λ f. asks f old.dial new.dial result) carried asked;
         traced = by has_ended ends none counted;
         tracer = tracer;
+        clock = clock;
       }
     where
       context-of : Option HeldSpan → Option Context
@@ -113,12 +118,13 @@ module _ {S R D P : Type 0} (meaning : S → SamplerMeaning) (stream : R → Str
           → (x ≡ None) ⊎ (x ≡ made)
           → EndsAs admits (closing_calls result) at held before after
           → new.untraced ≡ old.untraced
-          → IsTraced meaning stream admits old parent method address
+          → IsTraced meaning stream tells admits old parent method address
           (context-of x) before result new after
       with-span None held h w e n = cc
       with-span (Some y) held h w e n =
           let same : y ≡ held = cc in
           traced-is old new parent method address before after result begun at y
+          begun_told ended_told
           (has-started (Some y) made y refl w started)
           (subst (λ z. EndsAs admits (closing_calls result) at z before after)
           (sym same) e)
@@ -135,14 +141,15 @@ module _ {S R D P : Type 0} (meaning : S → SamplerMeaning) (stream : R → Str
           × EndsAs admits (closing_calls result) at held before after)
           → (b ≡ false → after ≡ before)
           → new.untraced ≡ (if b then old.untraced else counted_requests (old.untraced + 1))
-          → IsTraced meaning stream admits old parent method address
+          → IsTraced meaning stream tells admits old parent method address
           (option_map (λ (held : HeldSpan). held.context) span) before result new after
-          ⊎ IsUntraced meaning stream admits old parent method address
+          ⊎ IsUntraced meaning stream tells admits old parent method address
           (option_map (λ (held : HeldSpan). held.context) span) before new after
       by true e u n = let h = e refl in inl (with-span span h.0 h.1 sent_with h.2 n)
       by false e u n =
           inr (record {
             begun = begun;
+            begun_told = begun_told;
             span = made;
             started = started;
             carried = carries span made sent_with;

@@ -3,6 +3,7 @@ use Rattle.std.specs.Prelude.{ℕ, Bool, ◌||◌, nat_le, nat_lt, if◌then◌e
 use Rattle.std.specs.Prelude.{codes, decimal}
 use Rattle.std.specs.Prelude.{map, Option, Some, None, Result, Ok, Err}
 use Rattle.rand_core.specs.Stream.{Stream}
+use Rattle.trace_api.specs.declared.provider.StartFault.{StartFault}
 use Rattle.trace_api.specs.Endings.{Ending, ending_calls, int_pair, text_pair}
 use Rattle.http_wire.specs.declared.fault.HttpFault.{HttpFault}
 use Rattle.model_span.specs.Attributes.{Attribute}
@@ -16,7 +17,7 @@ use Rattle.trace_context.specs.Carriers.{Field, outgoing}
 use Rattle.http_client.specs.declared.fault.SendFault.{SendFault}
 use Rattle.http_client.specs.declared.fault.SendFault.TheVariants.{NoReply, NotSent}
 use Rattle.http_client.specs.Faults.{error_type}
-use Rattle.traced_http.specs.Starts.{StartsIfAny, StartsSpan, text_pairs}
+use Rattle.traced_http.specs.Starts.{StartsIfAny, StartsNone, StartsSpan, text_pairs}
 
 -- where a request goes, as one text, without the secrets of its query (RFC 3986, section 3;
 -- url.full)
@@ -46,6 +47,12 @@ abbrev pub HasStarted : Tracer → Stream → Stream → Option Context → List
     → Type 0
 HasStarted tracer old new parent method address at =
     StartsSpan tracer old new parent (method_name method) client (request_pairs method address) at
+
+-- no span has started for a request of this method, and why
+abbrev pub HasNotStarted : Tracer → Stream → Stream → Option Context → List ℕ → ℕ → StartFault
+    → Type 0
+HasNotStarted tracer old new parent method at =
+    StartsNone tracer old new parent (method_name method) client at
 
 -- the span that has started for the request, or none, since it could not start
 abbrev pub HasStartedOrNone : Tracer → Stream → Stream → Option Context → List ℕ → Address → ℕ

@@ -23,10 +23,12 @@ use Rattle.traced_http.specs.RequestSpans.{LentSpan, counted, lent_span}
 use Rattle.traced_http.specs.ServerSpans.{HasStartedOrNone, request_calls, server_start}
 
 -- what requests are answered with
-pub record Serving (S H P R : Type 0) : Type 0 where
+pub record Serving (S H P R C : Type 0) : Type 0 where
   pub tracer : TracerWith S
   pub server : Server
   pub rng : R
+  -- what gives the moments
+  pub clock : C
   pub handler : H
   pub pass : P
   -- how many requests were answered and have no span
@@ -35,11 +37,12 @@ pub record Serving (S H P R : Type 0) : Type 0 where
   pub left_out : ℕ
 
 -- the same, of the service
-abbrev pub serving : {S H P R C : Type 0} → TracedService S H P R C → Serving S H P R
+abbrev pub serving : {S H P R C : Type 0} → TracedService S H P R C → Serving S H P R C
 serving s = record {
   tracer = s.tracing.tracer;
   server = server_view s.tracing.server;
   rng = s.tracing.rng;
+  clock = s.tracing.clock;
   handler = s.handler;
   pass = s.pass.now;
   untraced = s.untraced;
@@ -59,19 +62,23 @@ Answered answers old before lent request response new after left =
     answers old before lent request (Some response) new after left
     ⊎ (answers old before lent request None new after left × IsResponse 503 [] [] response)
 
-module _ {S H P R : Type 0} (meaning : S → SamplerMeaning) (stream : R → Stream)
-    (routes : H → Request (List ℕ) → Option (List ℕ) → Type 0) (answers : Answers H P)
+module _ {S H P R C : Type 0} (meaning : S → SamplerMeaning) (stream : R → Stream)
+    (tells : C → ℕ → Type 0) (routes : H → Request (List ℕ) → Option (List ℕ) → Type 0)
+    (answers : Answers H P)
     (admits : P → SpanData → Ended → P → Type 0) where
   -- The request has a span, a child of what it carried. The handler was lent it, with the
   -- attributes of the request, and made more calls on it, none of which is an end. Then it was
-  -- handed to the pass that the handler left, with these and what the response says.
-  pub record IsTraced (old : Serving S H P R) (request : Request (List ℕ)) (lent : Option HeldSpan)
-      (response : Response) (after : P) (left : Option HeldSpan) (new : Serving S H P R)
+  -- handed to the pass that the handler left, with these and what the response says. It starts and
+  -- ends at moments that the clock tells.
+  pub record IsTraced (old : Serving S H P R C) (request : Request (List ℕ)) (lent : Option HeldSpan)
+      (response : Response) (after : P) (left : Option HeldSpan) (new : Serving S H P R C)
       : Type 0 where
     pub route : Option (List ℕ)
     pub routed : routes old.handler request route
     pub begun : ℕ
+    pub begun_told : tells old.clock begun
     pub ended : ℕ
+    pub ended_told : tells old.clock ended
     pub s : StartedSpan
     pub started : started_span (tracer_view meaning old.tracer)
         (server_start route request begun) (words_of (stream old.rng)) ≡ Some s
@@ -88,11 +95,12 @@ module _ {S H P R : Type 0} (meaning : S → SamplerMeaning) (stream : R → Str
 
   -- No span of the request was handed over, and the request is counted. The handler was lent none,
   -- since none could start, or the one that has started, for whose end memory was refused.
-  pub record IsUntraced (old : Serving S H P R) (request : Request (List ℕ))
-      (lent : Option HeldSpan) (after : P) (new : Serving S H P R) : Type 0 where
+  pub record IsUntraced (old : Serving S H P R C) (request : Request (List ℕ))
+      (lent : Option HeldSpan) (after : P) (new : Serving S H P R C) : Type 0 where
     pub route : Option (List ℕ)
     pub routed : routes old.handler request route
     pub begun : ℕ
+    pub begun_told : tells old.clock begun
     pub lent_is : HasStartedOrNone (tracer_view meaning old.tracer) (stream old.rng)
         (stream new.rng) route old.server request begun lent
     pub untouched : new.pass ≡ after
@@ -100,8 +108,8 @@ module _ {S H P R : Type 0} (meaning : S → SamplerMeaning) (stream : R → Str
 
   -- A request is answered: by its handler, once, and within a span, which is handed over once. The
   -- calls of the handler on it that were left out are counted.
-  pub record Serves (old : Serving S H P R) (request : Request (List ℕ)) (response : Response)
-      (new : Serving S H P R) : Type 0 where
+  pub record Serves (old : Serving S H P R C) (request : Request (List ℕ)) (response : Response)
+      (new : Serving S H P R C) : Type 0 where
     pub lent : Option HeldSpan
     pub after : P
     pub left : LentSpan
@@ -111,4 +119,5 @@ module _ {S H P R : Type 0} (meaning : S → SamplerMeaning) (stream : R → Str
         ⊎ IsUntraced old request lent after new
     pub left_out : new.left_out ≡ counted (old.left_out + left.left_out)
     pub tracer : new.tracer ≡ old.tracer
+    pub clock : new.clock ≡ old.clock
     pub server : new.server ≡ old.server

@@ -9,6 +9,8 @@ use Rattle.model_span.specs.Starts.{start_request, started_span}
 use Rattle.otlp_ids.specs.WordStream.{Spends, words_of}
 use Rattle.trace_api.specs.Endings.{text_pair}
 use Rattle.trace_api.specs.Starts.{StartTakesMemory}
+use Rattle.trace_api.specs.declared.provider.StartFault.{StartFault}
+use Rattle.trace_api.specs.declared.provider.StartFault.TheVariants.{NoRandomness, OutOfMemory}
 
 -- the attribute of this key, if there is a text for it
 abbrev pub text_pairs : List ℕ → Option (List ℕ) → List Attribute
@@ -25,19 +27,19 @@ pub record StartsSpan (tracer : Tracer) (old new : Stream) (parent : Option Cont
   pub held : span ≡ held_span s (map set_attribute pairs)
   pub spent : Spends (ids_words (valid_parent parent)) old new
 
--- Why no span has started so: memory was refused before its identifiers were drawn; the generator
--- gave only zeros for them; or it gave them, and memory was refused for a span that takes some. It
--- has given no word, or those of the identifiers.
+-- Why no span has started so. There is no randomness just where the generator's words are only
+-- zeros, and it has given them. Else memory was refused: before identifiers were drawn, when the
+-- generator has given no word; or after that, for a span that takes some.
 pub data StartsNone (tracer : Tracer) (old new : Stream) (parent : Option Context)
-    (name : List ℕ) (kind : Kind) (at : ℕ) : Type 0 where
-  undrawn : new ≡ old → StartsNone tracer old new parent name kind at
+    (name : List ℕ) (kind : Kind) (at : ℕ) (fault : StartFault) : Type 0 where
+  undrawn : new ≡ old → fault ≡ OutOfMemory → StartsNone tracer old new parent name kind at fault
   zeros : started_span tracer (start_request parent name kind at) (words_of old) ≡ None
-      → Spends (ids_words (valid_parent parent)) old new
-      → StartsNone tracer old new parent name kind at
+      → Spends (ids_words (valid_parent parent)) old new → fault ≡ NoRandomness
+      → StartsNone tracer old new parent name kind at fault
   refused : (s : StartedSpan)
       → started_span tracer (start_request parent name kind at) (words_of old) ≡ Some s
       → StartTakesMemory s → Spends (ids_words (valid_parent parent)) old new
-      → StartsNone tracer old new parent name kind at
+      → fault ≡ OutOfMemory → StartsNone tracer old new parent name kind at fault
 
 -- the span that has started so, or none, since it could not start
 abbrev pub StartsIfAny : Tracer → Stream → Stream → Option Context → List ℕ → Kind → List Attribute
@@ -45,4 +47,4 @@ abbrev pub StartsIfAny : Tracer → Stream → Stream → Option Context → Lis
 StartsIfAny tracer old new parent name kind pairs at (Some span) =
     StartsSpan tracer old new parent name kind pairs at span
 StartsIfAny tracer old new parent name kind pairs at None =
-    StartsNone tracer old new parent name kind at
+    (fault : StartFault) × StartsNone tracer old new parent name kind at fault

@@ -63,7 +63,7 @@ pub(crate) fn start_with<S: Sampler, R: Rng>(
     ensures started { IfOk result (StartsSpan (tracer_view S.meaning tracer.now)
         (R.stream rng.old) (R.stream rng.new) (parent_view parent.entry) named.entry.name.now
         (kind_view named.entry.kind) (lent_pairs attributes.now) at) }
-    ensures none { IfErr result (λ _. StartsNone (tracer_view S.meaning tracer.now)
+    ensures none { IfErr result (StartsNone (tracer_view S.meaning tracer.now)
         (R.stream rng.old) (R.stream rng.new) (parent_view parent.entry) named.entry.name.now
         (kind_view named.entry.kind) at) }
 {

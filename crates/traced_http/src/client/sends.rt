@@ -55,11 +55,12 @@ pub struct Client<'a, S: Sampler, R, C, T> {
 impl<'a, S: Sampler, R, C, T> Model for Client<'a, S, R, C, T> {
     ghost use Rattle.traced_http.specs.Sends.{ClientWith};
 
-    ghost Value = { ClientWith S R T };
+    ghost Value = { ClientWith S R C T };
 
     ghost view = { λ c. record {
       tracer = c.parts.tracer;
       rng = c.parts.rng;
+      clock = c.parts.clock;
       dial = c.parts.dial;
       untraced = c.untraced;
     } };
@@ -141,6 +142,7 @@ impl<'a, S: Sampler, R, C, D: Dial> Client<'a, S, R, C, NewConnections<D>> {
         ensures { result ≡ record {
           tracer = parts.entry.tracer;
           rng = parts.entry.rng;
+          clock = parts.entry.clock;
           dial = parts.entry.dial;
           untraced = 0;
         } }
@@ -172,6 +174,7 @@ impl<'a, S: Sampler, R, C, D: Dial> Client<'a, S, R, C, KeptConnection<D>> {
         ensures { result ≡ record {
           tracer = parts.entry.tracer;
           rng = parts.entry.rng;
+          clock = parts.entry.clock;
           dial = record { dial = parts.entry.dial; kept = None };
           untraced = 0;
         } }
@@ -225,7 +228,7 @@ where
         target: &Target,
         pass: &mut P,
     ) -> Result<Reply, SendFault>
-        ensures { Sends S.meaning R.stream P.admits
+        ensures { Sends S.meaning R.stream C.tells P.admits
             (T.asks target.now get_request)
             self.old (parent_view parent.entry) get_request.method target.now pass.old
             (result_map_both reply_view (λ fault. fault) result) self.new pass.new }
@@ -277,7 +280,7 @@ where
         ensures refused { IfSome (refusals.refusal (request_view request.now)) (λ fault.
             (result ≡ Err fault) × (self.new ≡ self.old) × (pass.new ≡ pass.old)) }
         ensures sent { refusals.refusal (request_view request.now) ≡ None →
-            Sends S.meaning R.stream P.admits
+            Sends S.meaning R.stream C.tells P.admits
             (T.asks target.now (request_view request.now))
             self.old (parent_view parent.entry) (request_view request.now).method target.now
             pass.old (result_map_both reply_view (λ fault. fault) result) self.new pass.new }
@@ -296,7 +299,7 @@ where
         request: &ClientRequest<'_>,
         pass: &mut P,
     ) -> Result<Reply, SendFault>
-        ensures { Sends S.meaning R.stream P.admits
+        ensures { Sends S.meaning R.stream C.tells P.admits
             (T.asks target.now (request_view request.now))
             self.old (parent_view parent.entry) (request_view request.now).method target.now
             pass.old (result_map_both reply_view (λ fault. fault) result) self.new pass.new }

@@ -9,7 +9,8 @@ ghost use Rattle.trace_api.specs.Starts.{tracer_view};
 ghost use Rattle.trace_context.specs.Carriers.{outgoing};
 ghost use Rattle.trace_context.specs.Pairs.{fields_view};
 ghost use Rattle.traced_http.specs.ClientSpans as spec;
-ghost use Rattle.traced_http.specs.ClientSpans.{HasStarted, HasStartedOrNone, carried_by};
+ghost use Rattle.traced_http.specs.ClientSpans.{HasNotStarted, HasStarted, HasStartedOrNone};
+ghost use Rattle.traced_http.specs.ClientSpans.{carried_by};
 
 use crate::method::{method_name, method_value, original_method};
 use crate::query::push_path;
@@ -100,9 +101,8 @@ fn start<S: Sampler, R: Rng>(
     ensures started { IfOk result (HasStarted (tracer_view S.meaning tracer.now)
         (R.stream rng.old) (R.stream rng.new) (parent_view parent.entry) method.now target.now
         at) }
-    ensures none { IfErr result (λ _. HasStartedOrNone (tracer_view S.meaning tracer.now)
-        (R.stream rng.old) (R.stream rng.new) (parent_view parent.entry) method.now target.now
-        at None) }
+    ensures none { IfErr result (HasNotStarted (tracer_view S.meaning tracer.now)
+        (R.stream rng.old) (R.stream rng.new) (parent_view parent.entry) method.now at) }
 {
     let url = full_url(alloc, target)?;
     let attributes = request_pairs(alloc, method, target, &url)?;

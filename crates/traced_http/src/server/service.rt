@@ -47,6 +47,7 @@ impl<'a, S: Sampler, H, P, R, C> TracedService<'a, S, H, P, R, C> {
           tracer = tracing.entry.tracer;
           server = server_view tracing.entry.server;
           rng = tracing.entry.rng;
+          clock = tracing.entry.clock;
           handler = handler;
           pass = pass.old;
           untraced = 0;
@@ -113,13 +114,13 @@ where
 {
     ghost use Rattle.traced_http.specs.Serves.{Serves, serving};
 
-    ghost answers = { λ old request response new. Serves S.meaning R.stream H.routes H.answers
+    ghost answers = { λ old request response new. Serves S.meaning R.stream C.tells H.routes H.answers
         P.admits (serving old) request response (serving new) };
 
     /// Answers a request within its span. It never fails.
     fn call(&mut self, request: &Request<Bytes>, response: &mut Response) -> Result<(), AllocError>
         requires { IsBlank response.old }
-        ensures ok { OnOk result (Serves S.meaning R.stream H.routes H.answers P.admits
+        ensures ok { OnOk result (Serves S.meaning R.stream C.tells H.routes H.answers P.admits
             (serving self.old) request.now response.new (serving self.new)) }
         ensures err { OnErr result (self.new ≡ self.old) }
         ensures never { IsOk result }

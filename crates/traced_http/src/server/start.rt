@@ -1,10 +1,10 @@
 //! How the span of a request starts.
 
-ghost use Rattle.std.specs.Prelude.{◌≡◌, IfErr, IfOk, None};
+ghost use Rattle.std.specs.Prelude.{◌≡◌, IfErr, IfOk};
 ghost use Rattle.std.specs.Option.{option_copied};
 ghost use Rattle.trace_api.specs.Starts.{tracer_view};
 ghost use Rattle.traced_http.specs.Attributes.{server_view};
-ghost use Rattle.traced_http.specs.ServerSpans.{HasStarted, HasStartedOrNone};
+ghost use Rattle.traced_http.specs.ServerSpans.{HasNotStarted, HasStarted, HasStartedOrNone};
 
 use crate::server::attributes::{request_pairs, shown_query};
 use crate::server::carrier::caller_of;
@@ -59,10 +59,11 @@ impl<'a, S: Sampler, R: Rng, C> Tracing<'a, S, R, C> {
         ensures started { IfOk result (HasStarted (tracer_view S.meaning self.old.tracer)
             (R.stream self.old.rng) (R.stream self.new.rng) (option_copied route.entry)
             (server_view self.old.server) request.now at) }
-        ensures none { IfErr result (λ _. HasStartedOrNone (tracer_view S.meaning self.old.tracer)
+        ensures none { IfErr result (HasNotStarted (tracer_view S.meaning self.old.tracer)
             (R.stream self.old.rng) (R.stream self.new.rng) (option_copied route.entry)
-            (server_view self.old.server) request.now at None) }
+            request.now at) }
         ensures tracer { self.new.tracer ≡ self.old.tracer }
+        ensures clock { self.new.clock ≡ self.old.clock }
         ensures server { self.new.server ≡ self.old.server }
     {
         let caller = caller_of(alloc, request.headers())?;
@@ -86,6 +87,7 @@ impl<'a, S: Sampler, R: Rng, C> Tracing<'a, S, R, C> {
     }
 
     /// The same, if there is memory for the span and the generator gives its identifiers.
+    #[tactic(auto, using(crate::proofs::Started::starts_none))]
     pub(crate) fn start_if_any(
         &mut self,
         alloc: Global,
@@ -97,6 +99,7 @@ impl<'a, S: Sampler, R: Rng, C> Tracing<'a, S, R, C> {
             (R.stream self.old.rng) (R.stream self.new.rng) (option_copied route.entry)
             (server_view self.old.server) request.now at result }
         ensures tracer { self.new.tracer ≡ self.old.tracer }
+        ensures clock { self.new.clock ≡ self.old.clock }
         ensures server { self.new.server ≡ self.old.server }
     {
         match self.start(alloc, route, request, at) {
