@@ -61,15 +61,19 @@ class Span:
         return 256 + pair + 256 + len(SCOPE)
 
 
+def shared_body(spans):
+    """A request with these spans under one resource, with the service of the first, and one scope.
+    The bytes of both count once for each trace of theirs."""
+    value = piece(2, piece(1, spans[0].service.encode()))
+    about = piece(1, piece(1, b"service.name") + value)
+    scope = piece(1, piece(1, SCOPE.encode()))
+    fields = b"".join(piece(2, it.fields()) for it in spans)
+    return piece(1, piece(1, about) + piece(2, scope + fields))
+
+
 def body_of(spans):
     """A request with these spans, each under a resource and a scope of its own."""
-    found = []
-    for it in spans:
-        value = piece(2, piece(1, it.service.encode()))
-        about = piece(1, piece(1, b"service.name") + value)
-        scope = piece(1, piece(1, SCOPE.encode()))
-        found.append(piece(1, piece(1, about) + piece(2, scope + piece(2, it.fields()))))
-    return b"".join(found)
+    return b"".join(shared_body([it]) for it in spans)
 
 
 class Posted:

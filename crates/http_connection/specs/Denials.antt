@@ -20,6 +20,7 @@ code_of denials.TracesOnly = 404
 code_of denials.ExportMethod = 405
 code_of denials.PageMethod = 405
 code_of denials.BodyTooLarge = 413
+code_of denials.TracesTooLarge = 413
 code_of denials.UriTooLong = 414
 code_of denials.MediaType = 415
 code_of denials.FieldsTooLarge = 431
@@ -42,6 +43,8 @@ message_of denials.PageMethod =
     codes "post traces to /v1/traces: this path is read with the method GET"
 message_of denials.BodyTooLarge =
     codes "the body is too large: export smaller batches, or raise --max-body"
+message_of denials.TracesTooLarge =
+    codes "more than is kept: export smaller batches, or raise --keep-spans or --keep-mb"
 message_of denials.UriTooLong = codes "the target of the request is too long"
 message_of denials.MediaType =
     codes "set the exporter's protocol to http/protobuf and its compression to none"

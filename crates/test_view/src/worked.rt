@@ -1,14 +1,18 @@
-//! Worked examples of what a store of traces is and of what a request takes, with values that were
-//! written out by hand. The checker computes what the definitions make of each, and compares.
+//! Worked examples of what a store of traces is, of what it has room for and of what a request
+//! takes, with values that were written out by hand. The checker computes what the definitions make
+//! of each, and compares.
 //!
 //! Each function is a group of examples. Its clauses are the examples, and it does nothing when it
 //! is called. A span of a store is a number here, which is also its size.
 
-ghost use Rattle.std.specs.Prelude.{◌≡◌, ◌+◌, ◌*◌, ◌∷◌, ◌++◌, [], ℕ, reverse};
+ghost use Rattle.std.specs.Prelude.{◌≡◌, ◌+◌, ◌*◌, ◌∷◌, ◌++◌, [], ℕ, replicate, reverse};
 ghost use Rattle.circular_buffer.specs.Buffer.{keep_last};
-ghost use Rattle.trace_store.specs.Traces.{byte_count, span_count, spans_of, with_parts};
-ghost use Rattle.trace_store.specs.Traces.{traces_of, with_spans};
+ghost use Rattle.trace_store.specs.Requests.{and_trace, share_of};
+ghost use Rattle.trace_store.specs.Stores.{HasRoom};
+ghost use Rattle.trace_store.specs.Traces.{byte_count, joined_traces, span_count, spans_of};
+ghost use Rattle.trace_store.specs.Traces.{traces_of, with_parts, with_spans};
 ghost use Rattle.test_view.specs.Bodies.{size_of};
+ghost use Rattle.test_view.specs.Stores.{store_of};
 
 /// Spans come after those of their trace, which is then the newest.
 pub fn traces()
@@ -22,6 +26,36 @@ pub fn traces()
     ensures none { spans_of {S = ℕ} ((1, 10 ∷ []) ∷ []) 2 ≡ [] }
     ensures count { span_count {S = ℕ} ((2, 20 ∷ 21 ∷ []) ∷ (1, 10 ∷ []) ∷ []) ≡ 3 }
     ensures bytes { byte_count {S = ℕ} (λ n. n) ((2, 20 ∷ 21 ∷ []) ∷ (1, 10 ∷ []) ∷ []) ≡ 51 }
+{}
+
+/// A store has room for spans if the traces that they belong to are within its limits with them.
+pub fn rooms()
+    ensures joined { joined_traces {S = ℕ} ((2, 20 ∷ 21 ∷ []) ∷ (1, 10 ∷ []) ∷ [])
+        ((1, 11 ∷ []) ∷ (3, 30 ∷ []) ∷ []) ≡ (1, 10 ∷ 11 ∷ []) ∷ (3, 30 ∷ []) ∷ [] }
+    // 1,001 and 1,000 empty spans, where 1,000 spans are kept.
+    ensures too_many { ¬ HasRoom {S = ℕ} (λ n. n) (store_of ((1, 10 ∷ []) ∷ []) 1000 99)
+        ((7, replicate 1001 0) ∷ []) }
+    ensures many { HasRoom {S = ℕ} (λ n. n) (store_of ((1, 10 ∷ []) ∷ []) 1000 99)
+        ((7, replicate 1000 0) ∷ []) }
+    // Two spans, where three are kept: of a new trace, and of one that has two.
+    ensures new { HasRoom {S = ℕ} (λ n. n) (store_of ((1, 10 ∷ 11 ∷ []) ∷ []) 3 99)
+        ((2, 20 ∷ 21 ∷ []) ∷ []) }
+    ensures with_others { ¬ HasRoom {S = ℕ} (λ n. n) (store_of ((1, 10 ∷ 11 ∷ []) ∷ []) 3 99)
+        ((1, 12 ∷ 13 ∷ []) ∷ []) }
+    // Two traces, which fit alone, but not together.
+    ensures together { ¬ HasRoom {S = ℕ} (λ n. n) (store_of ((1, 10 ∷ 11 ∷ []) ∷ []) 3 99)
+        ((1, 12 ∷ []) ∷ (2, 20 ∷ []) ∷ []) }
+    // 41 bytes, where 41 and where 40 are kept.
+    ensures bytes { HasRoom {S = ℕ} (λ n. n) (store_of [] 9 41) ((1, 20 ∷ 21 ∷ []) ∷ []) }
+    ensures too_large { ¬ HasRoom {S = ℕ} (λ n. n) (store_of [] 9 40) ((1, 20 ∷ 21 ∷ []) ∷ []) }
+{}
+
+/// What spans share counts with the first span of each trace: here for spans of traces 7, 8, 7 and 8.
+pub fn shares()
+    ensures first { share_of 512 (λ _. false) 7 ≡ 512 }
+    ensures second { share_of 512 (and_trace (λ _. false) 7) 8 ≡ 512 }
+    ensures third { share_of 512 (and_trace (and_trace (λ _. false) 7) 8) 7 ≡ 0 }
+    ensures fourth { share_of 512 (and_trace (and_trace (and_trace (λ _. false) 7) 8) 7) 8 ≡ 0 }
 {}
 
 /// The traces that went are named after those that went before: the oldest of them first.

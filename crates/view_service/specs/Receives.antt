@@ -105,6 +105,10 @@ HasParts {A} body parts = (request : Request A)
 abbrev pub Keeping : Type 0 → Type 0 → Type 1
 Keeping A K = K → Parts A → K → Type 0
 
+-- What keeps spans has no room for these parts, so.
+abbrev pub Lacking : Type 0 → Type 0 → Type 1
+Lacking A K = K → Parts A → Type 0
+
 -- A keeper of spans in the first state has given up the oldest traces for this many bytes, which
 -- leaves the second state.
 abbrev pub Giving : Type 0 → Type 1
@@ -112,21 +116,26 @@ Giving K = K → ℕ → K → Type 0
 
 -- What becomes of a request, where this many bytes may still be pending: why it is refused, or
 -- nothing where it is taken. It is taken only where its body was read, and its parts were kept
--- before. Where it is refused, what keeps the spans is as it was; but where memory was
--- lacking, it has given up the oldest traces for as many bytes as the request takes.
-pub data Receives {A K : Type 0} (keeps : Keeping A K) (gives_up : Giving K) (old : K)
-    (post : HttpPost) (room : ℕ) (denial : Option Denial) (new : K) : Type 0 where
+-- before. Where it is refused, also for lack of room for its traces, what keeps the spans is as it
+-- was; but where memory was lacking, it has given up the oldest traces for as many bytes as the
+-- request takes.
+pub data Receives {A K : Type 0} (keeps : Keeping A K) (lacks_room : Lacking A K)
+    (gives_up : Giving K) (old : K) (post : HttpPost) (room : ℕ)
+    (denial : Option Denial) (new : K) : Type 0 where
   refused : (reason : Denial) → denial_of post room ≡ Some reason → denial ≡ Some reason
-      → new ≡ old → Receives keeps gives_up old post room denial new
+      → new ≡ old → Receives keeps lacks_room gives_up old post room denial new
   unread : denial_of post room ≡ None → IsUnread post.body reasons.Fault
       → denial ≡ Some denials.BadBody → new ≡ old
-      → Receives keeps gives_up old post room denial new
+      → Receives keeps lacks_room gives_up old post room denial new
+  too_large : (parts : Parts A) → denial_of post room ≡ None → HasParts post.body parts
+      → lacks_room old parts → denial ≡ Some denials.TracesTooLarge → new ≡ old
+      → Receives keeps lacks_room gives_up old post room denial new
   no_memory : denial_of post room ≡ None → denial ≡ Some denials.OutOfMemory
       → gives_up old (size_of_body post.body) new
-      → Receives keeps gives_up old post room denial new
+      → Receives keeps lacks_room gives_up old post room denial new
   kept : (parts : Parts A) → denial_of post room ≡ None → HasParts post.body parts
       → denial ≡ None → keeps old parts new
-      → Receives keeps gives_up old post room denial new
+      → Receives keeps lacks_room gives_up old post room denial new
 
 -- The response says why a request is refused, or that its spans were taken.
 abbrev pub IsAnswer : Option Denial → Format → Response → Type 0
@@ -134,8 +143,8 @@ IsAnswer (Some denial) format response = IsDenial denial format response
 IsAnswer None format response = IsSuccess response
 
 -- a request to receive spans is answered so
-abbrev pub AnswersExport : {A K : Type 0} → Keeping A K → Giving K → K → HttpRequest (List ℕ) → ℕ
-    → Response → K → Type 0
-AnswersExport keeps gives_up old request room response new = (denial : Option Denial)
-    × Receives keeps gives_up old (post_of request) room denial new
+abbrev pub AnswersExport : {A K : Type 0} → Keeping A K → Lacking A K → Giving K → K
+    → HttpRequest (List ℕ) → ℕ → Response → K → Type 0
+AnswersExport keeps lacks_room gives_up old request room response new = (denial : Option Denial)
+    × Receives keeps lacks_room gives_up old (post_of request) room denial new
     × IsAnswer denial (denial_format (Some (head_of request))) response

@@ -15,7 +15,7 @@ use Rattle.http_connection.specs.Requests.{denial_format, is_export_path}
 use Rattle.http_connection.specs.Tallies.{CountsAnswer, Tally}
 use Rattle.http_connection.specs.declared.reply.denial.Denial.{Denial}
 use Rattle.http_connection.specs.declared.reply.denial.Denial.TheVariants as denials
-use Rattle.view_service.specs.Receives.{AnswersExport, Giving, Keeping}
+use Rattle.view_service.specs.Receives.{AnswersExport, Giving, Keeping, Lacking}
 use Rattle.view_service.specs.Shows.{AnswersPage, Drawing, Lending, Writing}
 use Rattle.view_service.specs.declared.service.ViewService.{ViewService}
 
@@ -62,14 +62,14 @@ denial_by refusals.NoRoom = denials.NoRoom
 denial_by refusals.UnknownCoding = denials.UnknownCoding
 denial_by refusals.UnknownVersion = denials.UnknownVersion
 
-module _ {A K P R S : Type 0} (keeps : Keeping A K) (gives_up : Giving K) (lends : Lending K S)
-    (draws : Drawing P S) (writes : Writing R) where
+module _ {A K P R S : Type 0} (keeps : Keeping A K) (lacks_room : Lacking A K)
+    (gives_up : Giving K) (lends : Lending K S) (draws : Drawing P S) (writes : Writing R) where
   -- A whole request is answered, where this many bytes may still be pending: one to receive spans,
   -- one to receive what isn't taken, or one for a page. Only the first one changes what is kept.
   pub data Answers (old : ViewService K P) (request : HttpRequest (List ℕ)) (room : ℕ)
       (response : Response) (rest : Option R) (new : K) : Type 0 where
     received : bytes_eq (uri_path (head_of request).uri) (codes "/v1/traces") ≡ true
-        → AnswersExport keeps gives_up (keeper_of old) request room response new
+        → AnswersExport keeps lacks_room gives_up (keeper_of old) request room response new
         → rest ≡ None → Answers old request room response rest new
     traces_only : bytes_eq (uri_path (head_of request).uri) (codes "/v1/traces") ≡ false
         → is_export_path (uri_path (head_of request).uri) ≡ true

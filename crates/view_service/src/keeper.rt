@@ -1,15 +1,16 @@
 //! What keeps received spans.
 
-ghost use Rattle.std.specs.Prelude.{◌≡◌, ◌<◌, ◌≤◌, ℕ, All, Bool, IfOk, List, OnErr, OnOk, Option};
+ghost use Rattle.std.specs.Prelude.{◌≡◌, ◌<◌, ◌≤◌, ℕ, All, Bool, IfOk, IsErrOf, List, OnErr};
+ghost use Rattle.std.specs.Prelude.{OnOk, Option};
 ghost use Rattle.std.specs.Prelude.{length, option_map, reverse, ⊤};
 ghost use Rattle.std.specs.List.{AllZip};
-ghost use Rattle.view_service.specs.Keepers.{GivesUp, KeepsParts, LendsCopies};
+ghost use Rattle.view_service.specs.Keepers.{GivesUp, KeepsParts, LacksRoom, LendsCopies};
 
 use crate::filter::TraceFilter;
 use std::alloc::{AllocError, Global};
 use std::collections::LinkedList;
 use std::hash::BuildHasher;
-use trace_store::{Digest, Part, SpanSize, TraceStore};
+use trace_store::{Digest, InsertFault, Part, SpanSize, TraceStore};
 
 /// How many spans were received, what became of them, and how many traces are kept.
 #[derive(Clone, Copy, Debug, PartialEq, Eq)]
@@ -33,6 +34,10 @@ pub trait TraceKeeper<S, D: Digest<S>> {
     // From the first state, the parts of a request were kept, and the second state is left.
     ghost keeps: { Self → List (ℕ × List S) → Self → Type 0 };
 
+    // In this state, it has no room for the parts of a request. An `impl` says so, if it can say
+    // that.
+    ghost lacks_room: { Self → List (ℕ × List S) → Type 0 } = { λ _ _. ⊤ };
+
     // From the first state, the oldest traces were given up for this many bytes, and the second
     // state is left.
     ghost gives_up: { Self → ℕ → Self → Type 0 };
@@ -49,10 +54,13 @@ pub trait TraceKeeper<S, D: Digest<S>> {
     ///
     /// # Errors
     ///
-    /// `AllocError` where memory was refused. It is then as it was.
-    fn keep(&mut self, parts: Vec<Part<S, Global>>) -> Result<(), AllocError>
+    /// `InsertFault` where it has no room for the parts, or where memory was refused. It is then as
+    /// it was.
+    fn keep(&mut self, parts: Vec<Part<S, Global>>) -> Result<(), InsertFault>
         requires { All (λ part. 0 < length part.1) parts.items }
         ensures kept { OnOk result (keeps self.old parts.items self.new) }
+        ensures too_large { IsErrOf result InsertFault.TooLarge
+            → lacks_room self.old parts.items }
         ensures refused { OnErr result (self.new ≡ self.old) };
 
     /// Gives up the oldest traces, until their spans took this many bytes or none is left. It takes
@@ -207,9 +215,11 @@ where
     H: BuildHasher + Drop,
 {
     ghost use Rattle.std.specs.Prelude.{⊤};
-    ghost use Rattle.view_service.specs.Keepers.{GivesUp, KeepsParts, LendsCopies};
+    ghost use Rattle.view_service.specs.Keepers.{GivesUp, KeepsParts, LacksRoom, LendsCopies};
 
     ghost keeps = { KeepsParts S.size_of };
+
+    ghost lacks_room = { LacksRoom S.size_of };
 
     ghost gives_up = { GivesUp S.size_of };
 
@@ -217,9 +227,11 @@ where
 
     ghost lists = { λ _ _ _ _. ⊤ };
 
-    fn keep(&mut self, parts: Vec<Part<S, Global>>) -> Result<(), AllocError>
+    fn keep(&mut self, parts: Vec<Part<S, Global>>) -> Result<(), InsertFault>
         requires { All (λ part. 0 < length part.1) parts.items }
         ensures kept { OnOk result (KeepsParts S.size_of self.old parts.items self.new) }
+        ensures too_large { IsErrOf result InsertFault.TooLarge
+            → LacksRoom S.size_of self.old parts.items }
         ensures refused { OnErr result (self.new ≡ self.old) }
     {
         self.insert_all(parts)

@@ -1,6 +1,6 @@
 //! Requests to receive spans.
 
-ghost use Rattle.std.specs.Prelude.{◌≡◌, ◌<◌, true, false, All, IfErr, IfOk, OnErr, OnOk, length};
+ghost use Rattle.std.specs.Prelude.{◌≡◌, ◌<◌, All, IfErr, IfOk, IsErrOf, OnErr, OnOk, length};
 ghost use Rattle.http_server.specs.Response.{IsBlank};
 ghost use Rattle.otlp_serve.specs.Answers.{refusal_of};
 ghost use Rattle.http_connection.specs.Denials.{IsDenial};
@@ -16,7 +16,7 @@ use otlp_read::{ReadFault, read_request};
 use otlp_serve::{PostReply, ReplyStatus};
 use std::alloc::{AllocError, Global};
 use std::sync::Arc;
-use trace_store::{Part, TraceDigest, ViewSpan, request_size, take_apart};
+use trace_store::{InsertFault, Part, TraceDigest, ViewSpan, request_size, take_apart};
 
 /// The spans of a request, by their traces.
 type Parts = Vec<Part<Arc<ViewSpan>, Global>>;
@@ -89,12 +89,12 @@ fn denial_of(request: &Request<Bytes>, room: usize) -> Option<Denial>
     None
 }
 
-/// The answer that memory was refused.
-fn busy(alloc: Global, format: Format) -> Result<Response, AllocError>
-    ensures { IfOk result (IsDenial Denial.OutOfMemory format) }
+/// An answer that refuses a request.
+fn refusal(alloc: Global, denial: Denial, format: Format) -> Result<Response, AllocError>
+    ensures { IfOk result (IsDenial denial format) }
 {
     let mut response = Response::new(alloc);
-    fill_denial(&mut response, Denial::OutOfMemory, format)?;
+    fill_denial(&mut response, denial, format)?;
     Ok(response)
 }
 
@@ -105,30 +105,34 @@ fn give_room<K: TraceKeeper<Arc<ViewSpan>, TraceDigest>>(keeper: &mut K, request
     keeper.make_room(size_of_body(request));
 }
 
-/// Keeps the parts of a request, if memory isn't refused; else the oldest traces make room for the
-/// next request. Answers whether they are kept.
+/// Keeps the parts of a request, if there is room for them and memory isn't refused. Where it is
+/// refused, the oldest traces make room for the next request.
 fn keep_parts<K: TraceKeeper<Arc<ViewSpan>, TraceDigest>>(
     keeper: &mut K,
     request: &Request<Bytes>,
     parts: Parts,
-) -> bool
+) -> Result<(), InsertFault>
     requires { All (λ part. 0 < length part.1) parts.items }
-    ensures kept { result ≡ true → K.keeps keeper.old parts.items keeper.new }
-    ensures gave_room { result ≡ false
+    ensures kept { OnOk result (K.keeps keeper.old parts.items keeper.new) }
+    ensures too_large { IsErrOf result InsertFault.TooLarge
+        → K.lacks_room keeper.old parts.items × (keeper.new ≡ keeper.old) }
+    ensures gave_room { IsErrOf result InsertFault.OutOfMemory
         → K.gives_up keeper.old (size_of_body (post_of request.now).body) keeper.new }
 {
     match keeper.keep(parts) {
-        Ok(()) => true,
-        Err(_) => {
+        Ok(()) => Ok(()),
+        Err(InsertFault::TooLarge) => Err(InsertFault::TooLarge),
+        Err(InsertFault::OutOfMemory) => {
             give_room(keeper, request);
-            false
+            Err(InsertFault::OutOfMemory)
         }
     }
 }
 
 /// Makes a blank response the answer to a request to receive spans (OTLP Specification, "OTLP/HTTP
-/// Request"). Only where its body was read, and its spans were kept, it is 200. Where memory was
-/// refused, the oldest traces make room for the next request.
+/// Request"). Only where its body was read, and its spans were kept, it is 200. Where their traces
+/// would be larger than all that is kept, it is 413, and nothing is kept or given up. Where memory
+/// was refused, the oldest traces make room for the next request.
 ///
 /// # Errors
 ///
@@ -142,8 +146,8 @@ pub(crate) fn receive<K: TraceKeeper<Arc<ViewSpan>, TraceDigest>>(
     response: &mut Response,
 ) -> Result<(), AllocError>
     requires { IsBlank response.old }
-    ensures received { OnOk result (AnswersExport K.keeps K.gives_up keeper.old request.now room
-        response.new keeper.new) }
+    ensures received { OnOk result (AnswersExport K.keeps K.lacks_room K.gives_up keeper.old
+        request.now room response.new keeper.new) }
     ensures refused { OnErr result (keeper.new ≡ keeper.old) }
 {
     let format = denial_format(Some(request));
@@ -152,7 +156,7 @@ pub(crate) fn receive<K: TraceKeeper<Arc<ViewSpan>, TraceDigest>>(
         return Ok(());
     }
     // All memory is taken before the keeper changes, so that nothing can fail after it.
-    let busy = busy(alloc, format)?;
+    let busy = refusal(alloc, Denial::OutOfMemory, format)?;
     let parts = match read_parts(alloc, request) {
         Ok(parts) => parts,
         Err(Unread::Fault) => {
@@ -166,9 +170,12 @@ pub(crate) fn receive<K: TraceKeeper<Arc<ViewSpan>, TraceDigest>>(
         }
     };
     fill_taken(response)?;
-    if keep_parts(keeper, request, parts) {
-        return Ok(());
+    match keep_parts(keeper, request, parts) {
+        Ok(()) => {}
+        Err(InsertFault::TooLarge) => {
+            *response = refusal(alloc, Denial::TracesTooLarge, format)?;
+        }
+        Err(InsertFault::OutOfMemory) => *response = busy,
     }
-    *response = busy;
     Ok(())
 }

@@ -148,8 +148,8 @@ where
         response: &mut Response,
     ) -> Result<Option<P::Page>, AllocError>
         requires { IsBlank response.old }
-        ensures answers { IfOk result (λ rest. Answers K.keeps K.gives_up K.lends P.draws
-            P.Page.writes self.old request.now room response.new rest (keeper_of self.new)) }
+        ensures answers { IfOk result (λ rest. Answers K.keeps K.lacks_room K.gives_up K.lends
+            P.draws P.Page.writes self.old request.now room response.new rest (keeper_of self.new)) }
         ensures counted { OnOk result (HasAnswered self.old self.new response.new.status) }
         ensures refused { OnErr result (self.new ≡ self.old) }
     {
@@ -166,8 +166,8 @@ where
         response: &mut Response,
     ) -> Result<Option<P::Page>, AllocError>
         requires { IsBlank response.old }
-        ensures answers { IfOk result (λ rest. Answers K.keeps K.gives_up K.lends P.draws
-            P.Page.writes self.old request.now room response.new rest (keeper_of self.new)) }
+        ensures answers { IfOk result (λ rest. Answers K.keeps K.lacks_room K.gives_up K.lends
+            P.draws P.Page.writes self.old request.now room response.new rest (keeper_of self.new)) }
         ensures hosts { hosts_of self.new ≡ hosts_of self.old }
         ensures pages { pages_of self.new ≡ pages_of self.old }
         ensures tallies { tally_of self.new ≡ tally_of self.old }
@@ -202,7 +202,7 @@ where
 
     type Pieces = P::Page;
 
-    ghost answers = { Serves K.keeps K.gives_up K.lends P.draws P.Page.writes };
+    ghost answers = { Serves K.keeps K.lacks_room K.gives_up K.lends P.draws P.Page.writes };
 
     fn admit(
         &mut self,

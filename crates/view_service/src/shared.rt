@@ -14,7 +14,7 @@ use std::alloc::{AllocError, Global};
 use std::hash::BuildHasher;
 use std::marker::{Model, PhantomData};
 use std::sync::{Arc, Mutex, Wait};
-use trace_store::{Digest, Part, SpanSize, TraceStore};
+use trace_store::{Digest, InsertFault, Part, SpanSize, TraceStore};
 
 /// What an account of a store says: how many spans its holder has kept there. No value is made.
 pub struct SpansKept {
@@ -73,7 +73,7 @@ impl<J: Naming, S: SpanSize + Drop, D: Digest<S>, H: BuildHasher + Drop> KeptSpa
         &mut self,
         account: &mut Account<J, SpansKept>,
         parts: Vec<Part<S, Global>>,
-    ) -> Result<(), AllocError>
+    ) -> Result<(), InsertFault>
         requires { All (λ part. 0 < length part.1) parts.items }
         ensures kept { OnOk result (account.new ≡ account.old + span_count parts.items) }
         ensures refused { OnErr result (account.new ≡ account.old) }
@@ -173,13 +173,15 @@ where
 
     ghost keeps = { CountsParts };
 
+    ghost lacks_room = { λ _ _. ⊤ };
+
     ghost gives_up = { λ old _ new. new ≡ old };
 
     ghost lends = { λ _ _ _. ⊤ };
 
     ghost lists = { λ _ _ _ _. ⊤ };
 
-    fn keep(&mut self, parts: Vec<Part<S, Global>>) -> Result<(), AllocError>
+    fn keep(&mut self, parts: Vec<Part<S, Global>>) -> Result<(), InsertFault>
         requires { All (λ part. 0 < length part.1) parts.items }
         ensures kept { OnOk result (CountsParts self.old parts.items self.new) }
         ensures refused { OnErr result (self.new ≡ self.old) }

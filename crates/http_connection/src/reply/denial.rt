@@ -31,6 +31,8 @@ pub enum Denial {
     PageMethod,
     /// 413: its body is larger than the service takes.
     BodyTooLarge,
+    /// 413: with its spans, their traces would be larger than all that is kept.
+    TracesTooLarge,
     /// 414: its target is too long.
     UriTooLong,
     /// 415: its body is of another type, or was encoded.
@@ -57,7 +59,7 @@ impl Denial {
             Denial::Host => StatusCode::FORBIDDEN,
             Denial::NoPath | Denial::TracesOnly => StatusCode::NOT_FOUND,
             Denial::ExportMethod | Denial::PageMethod => StatusCode::METHOD_NOT_ALLOWED,
-            Denial::BodyTooLarge => StatusCode::PAYLOAD_TOO_LARGE,
+            Denial::BodyTooLarge | Denial::TracesTooLarge => StatusCode::PAYLOAD_TOO_LARGE,
             Denial::UriTooLong => StatusCode::URI_TOO_LONG,
             Denial::MediaType => StatusCode::UNSUPPORTED_MEDIA_TYPE,
             Denial::FieldsTooLarge => StatusCode::REQUEST_HEADER_FIELDS_TOO_LARGE,
@@ -85,6 +87,9 @@ impl Denial {
             }
             Denial::BodyTooLarge => {
                 "the body is too large: export smaller batches, or raise --max-body"
+            }
+            Denial::TracesTooLarge => {
+                "more than is kept: export smaller batches, or raise --keep-spans or --keep-mb"
             }
             Denial::UriTooLong => "the target of the request is too long",
             Denial::MediaType => {

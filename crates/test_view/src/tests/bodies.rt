@@ -77,6 +77,35 @@ fn kept_size(alloc: Global, body: &[u8]) -> Result<u64, Fail> {
     Ok(total)
 }
 
+/// Four spans under one resource: in the first scope one of trace 1, one of trace 2 and another of
+/// trace 1, and in the second scope one of trace 1.
+const MIXED: &[u8] = b"\x0a\x54\x12\x3c\
+\x12\x12\x0a\x10\0\0\0\0\0\0\0\0\0\0\0\0\0\0\0\x01\
+\x12\x12\x0a\x10\0\0\0\0\0\0\0\0\0\0\0\0\0\0\0\x02\
+\x12\x12\x0a\x10\0\0\0\0\0\0\0\0\0\0\0\0\0\0\0\x01\
+\x12\x14\x12\x12\x0a\x10\0\0\0\0\0\0\0\0\0\0\0\0\0\0\0\x01";
+
+/// The traces of a request, each with what its spans count of what they share.
+fn shares(alloc: Global, body: &[u8]) -> Result<String, Fail> {
+    let mut text = String::new(alloc);
+    for (trace, spans) in &take_apart(alloc, read_request(alloc, body)?)? {
+        write!(text, "{trace}:")?;
+        for span in spans.iter() {
+            write!(text, " {}", span.shared)?;
+        }
+        write!(text, ";")?;
+    }
+    Ok(text)
+}
+
+#[test]
+fn what_is_shared_counts_once_for_each_trace(rt: HostRuntime) -> Result<(), Fail> {
+    let text = shares(rt.alloc(), MIXED)?;
+    // The resource and the first scope, then nothing, and then the second scope.
+    assert_equal(&rt, text.as_str(), "1: 512 0 256;2: 512;");
+    Ok(())
+}
+
 #[test]
 fn what_a_body_takes_is_counted_before_it_is_read(rt: HostRuntime) -> Result<(), Fail> {
     for (body, kept, counted) in [

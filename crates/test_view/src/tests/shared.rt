@@ -8,7 +8,7 @@ use std::hash::{BuildHasherDefault, FoldHasher};
 use std::marker::Brand;
 use std::sync::Wait;
 use std::test::Fail;
-use trace_store::{Limits, SpanSize, TraceStore};
+use trace_store::{InsertFault, Limits, SpanSize, TraceStore};
 use view_service::{
     Blank, Counts, Naming, SharedKeeper, SpansKept, TraceFilter, TraceKeeper, share,
 };
@@ -85,7 +85,10 @@ fn keep<K: TraceKeeper<Digit, ()>>(
     let spans = alone(alloc, digit)?;
     let mut parts = Vec::new(alloc);
     parts.push((trace, spans))?;
-    keeper.keep(parts)
+    match keeper.keep(parts) {
+        Err(InsertFault::OutOfMemory) => Err(AllocError),
+        _ => Ok(()),
+    }
 }
 
 /// The digits of spans, the first of them first.

@@ -7,7 +7,7 @@ use std::collections::LinkedList;
 use std::hash::{BuildHasherDefault, FoldHasher};
 use std::test::Fail;
 use test_support::FailingAllocator;
-use trace_store::{Limits, SpanSize, TraceStore};
+use trace_store::{InsertFault, Limits, SpanSize, TraceStore};
 
 /// A span that is known by a digit, and takes ten bytes.
 #[derive(Debug, Clone, Copy, PartialEq, Eq)]
@@ -35,19 +35,41 @@ fn store<A: Allocator + Copy>(
     TraceStore::new(alloc, BuildHasherDefault::new(), limits)
 }
 
+/// Whether spans were received: they weren't if they are too large.
+fn is_taken(answer: Result<(), InsertFault>) -> Result<bool, AllocError> {
+    match answer {
+        Ok(()) => Ok(true),
+        Err(InsertFault::TooLarge) => Ok(false),
+        Err(InsertFault::OutOfMemory) => Err(AllocError),
+    }
+}
+
+/// Receives so many spans of a trace, each with the same digit.
+fn receive_some<A: Allocator + Copy>(
+    store: &mut Store<A>,
+    alloc: A,
+    trace: u128,
+    digit: u64,
+    count: u64,
+) -> Result<bool, AllocError> {
+    let mut spans = LinkedList::new(alloc);
+    for _ in 0..count {
+        spans.push_back(Digit(digit))?;
+    }
+    if spans.is_empty() {
+        return Ok(false);
+    }
+    is_taken(store.insert(trace, spans))
+}
+
 /// Receives a span of a trace.
 fn receive<A: Allocator + Copy>(
     store: &mut Store<A>,
     alloc: A,
     trace: u128,
     digit: u64,
-) -> Result<(), AllocError> {
-    let mut spans = LinkedList::new(alloc);
-    spans.push_back(Digit(digit))?;
-    if spans.is_empty() {
-        return Ok(());
-    }
-    store.insert(trace, spans)
+) -> Result<bool, AllocError> {
+    receive_some(store, alloc, trace, digit, 1)
 }
 
 /// A span, alone.
@@ -64,13 +86,13 @@ fn receive_both<A: Allocator + Copy>(
     store: &mut Store<A>,
     alloc: A,
     parts: [(u128, u64); 2],
-) -> Result<(), AllocError> {
+) -> Result<bool, AllocError> {
     let [(first, one), (second, other)] = parts;
     let (one, other) = (alone(alloc, one)?, alone(alloc, other)?);
     let mut parts = Vec::new(alloc);
     parts.push((first, one))?;
     parts.push((second, other))?;
-    store.insert_all(parts)
+    is_taken(store.insert_all(parts))
 }
 
 /// The spans that are kept, as digits, the newest trace first.
@@ -111,8 +133,10 @@ fn the_oldest_trace_goes_whole(rt: HostRuntime) -> Result<(), Fail> {
         (3, 99, (45, (5, 3, 2))),
         (9, 49, (4513, (5, 1, 4))),
         (9, 20, (45, (5, 3, 2))),
-        (1, 99, (0, (5, 5, 0))),
-        (0, 99, (0, (5, 5, 0))),
+        (2, 99, (45, (5, 3, 2))),
+        (9, 19, (4, (4, 3, 1))),
+        (1, 99, (4, (4, 3, 1))),
+        (0, 99, (0, (0, 0, 0))),
     ] {
         let found = run(rt.alloc(), max_spans, max_bytes)?;
         assert_equal(
@@ -169,7 +193,32 @@ fn run_both<A: Allocator + Copy>(
 #[test]
 fn the_spans_of_a_request_are_received_together(rt: HostRuntime) -> Result<(), Fail> {
     assert_equal(&rt, run_both(rt.alloc(), 9)?, (123, (3, 0, 3)));
-    assert_equal(&rt, run_both(rt.alloc(), 2)?, (12, (3, 1, 2)));
+    assert_equal(&rt, run_both(rt.alloc(), 3)?, (123, (3, 0, 3)));
+    assert_equal(&rt, run_both(rt.alloc(), 2)?, (1, (1, 0, 1)));
+    Ok(())
+}
+
+/// Whether so many spans of a trace are received after one of another, where 1,000 are kept, and
+/// what is counted then.
+fn run_many<A: Allocator + Copy>(
+    alloc: A,
+    count: u64,
+) -> Result<(bool, (u64, u64, u64)), AllocError> {
+    let mut store = store(alloc, 1_000, 99_999)?;
+    receive(&mut store, alloc, 1, 1)?;
+    let is_taken = receive_some(&mut store, alloc, 2, 0, count)?;
+    Ok((is_taken, seen(&store).1))
+}
+
+#[test]
+fn spans_that_are_too_many_change_nothing(rt: HostRuntime) -> Result<(), Fail> {
+    assert_equal(&rt, run_many(rt.alloc(), 1_001)?, (false, (1, 0, 1)));
+    assert_equal(
+        &rt,
+        run_many(rt.alloc(), 1_000)?,
+        (true, (1_001, 1, 1_000)),
+    );
+    assert_equal(&rt, run_many(rt.alloc(), 999)?, (true, (1_000, 0, 1_000)));
     Ok(())
 }
 

@@ -96,7 +96,7 @@ fn each_trace_has_what_its_spans_share_counted(rt: HostRuntime) -> Result<(), Fa
     spans.push(span(rt.alloc(), 3, "c")?)?;
     spans.push(span(rt.alloc(), 7, "d")?)?;
     let text = shares(rt.alloc(), spans)?;
-    assert_equal(&rt, text.as_str(), "3:525 7:525 0 525 ");
+    assert_equal(&rt, text.as_str(), "3:525 7:525 0 0 ");
     Ok(())
 }
 
