@@ -5,3 +5,5 @@ mod Closed
 mod Texts
 mod Served
 mod Queries
+pub mod Methods
+pub mod Dates

@@ -17,6 +17,7 @@ use Rattle.trace_api.specs.Starts.{tracer_view}
 use Rattle.trace_api.specs.declared.pass.Ended.{Ended}
 use Rattle.traced_http.specs.Attributes.{ending_of, request_pairs}
 use Rattle.http.specs.Request.{head_of}
+use Rattle.traced_http.specs.Dates.{SaysDate}
 use Rattle.traced_http.specs.RequestSpans.{GoesOn, GoesOnIfAny, LentSpan, counted, lent_span}
 use Rattle.traced_http.specs.Serves.{Answered, Answers, IsTraced, IsUntraced, Serves, Serving}
 use Rattle.traced_http.specs.ServerSpans.{HasStarted, HasStartedOrNone, request_calls}
@@ -67,7 +68,7 @@ module _ {S H P R C : Type 0} (meaning : S → SamplerMeaning) (stream : R → S
       now = g.does.value h.s (request_calls route old.server request) h.held
 
   -- A traced server answers a request, and hands over its span or counts the request as untraced.
-  pub serves : (old new : Serving S H P R C) (request : Request (List ℕ)) (response : Response)
+  pub serves : (old new : Serving S H P R C) (request : Request (List ℕ)) (made response : Response)
       (after : P) (route : Option (List ℕ)) (begun at : ℕ) (lent : Option HeldSpan)
       (left : LentSpan) (has_ended : Bool)
       → tells old.clock begun → tells old.clock at
@@ -75,24 +76,34 @@ module _ {S H P R C : Type 0} (meaning : S → SamplerMeaning) (stream : R → S
       → HasStartedOrNone (tracer_view meaning old.tracer) (stream old.rng)
       (stream new.rng) route old.server request begun lent
       → GoesOnIfAny lent left.span
-      → Answered answers old.handler old.pass (lent_span lent) request response new.handler after
-      left
+      → Answered answers old.handler old.pass (lent_span lent) request made new.handler after left
+      → SaysDate at made response
       → (has_ended ≡ true
       → (held : HeldSpan) × (left.span ≡ Some held)
-      × EndsAs admits (ending_calls (ending_of response.status)) at held after new.pass)
+      × EndsAs admits (ending_calls (ending_of made.status)) at held after new.pass)
       → (has_ended ≡ false → new.pass ≡ after)
       → new.untraced ≡ (if has_ended then old.untraced else counted_requests (old.untraced + 1))
       → new.left_out ≡ counted (old.left_out + left.left_out)
       → new.tracer ≡ old.tracer → new.clock ≡ old.clock → new.server ≡ old.server
       → Serves meaning stream tells routes answers admits old request response new
-  serves old new request response after route begun at lent left has_ended begun_told ended_told r
-      started goes answered ends none counted_as left_out t k v =
+  serves old new request made response after route begun at lent left has_ended begun_told
+      ended_told r started goes answered dated ends none counted_as left_out t k v =
       record {
         lent = lent;
         after = after;
         left = left;
+        made = made;
         answered = answered;
-        traced = by has_ended ends none counted_as;
+        made_at = at;
+        made_told = ended_told;
+        dated = dated;
+        traced =
+            by has_ended
+            (subst (λ s. has_ended ≡ true
+            → (held : HeldSpan) × (left.span ≡ Some held)
+            × EndsAs admits (ending_calls (ending_of s)) at held after new.pass)
+            (sym dated.status) ends)
+            none counted_as;
         left_out = left_out;
         tracer = t;
         clock = k;

@@ -40,7 +40,7 @@ module _ {S R C D P : Type 0} (meaning : S → SamplerMeaning) (stream : R → S
       (held : HeldSpan)
       → tells old.clock begun
       → (h : HasStarted (tracer_view meaning old.tracer) (stream old.rng)
-      (stream new.rng) parent method address begun held)
+      (stream new.rng) old.methods parent method address begun held)
       → Starts meaning stream tells admits old parent method h.s new
   starts-is old new parent method address begun held b h =
       record { begun = begun; begun_told = b; started = h.started; spent = h.spent }
@@ -51,7 +51,7 @@ module _ {S R C D P : Type 0} (meaning : S → SamplerMeaning) (stream : R → S
       (before after : P) (result : Result HttpReply SendFault) (begun at : ℕ) (held : HeldSpan)
       → tells old.clock begun → tells old.clock at
       → HasStarted (tracer_view meaning old.tracer) (stream old.rng)
-      (stream new.rng) parent method address begun held
+      (stream new.rng) old.methods parent method address begun held
       → EndsAs admits (closing_calls result) at held before after
       → new.untraced ≡ old.untraced
       → IsTraced meaning stream tells admits old parent method address
@@ -59,12 +59,12 @@ module _ {S R C D P : Type 0} (meaning : S → SamplerMeaning) (stream : R → S
   traced-is old new parent method address before after result begun at held b t h e n = record {
     s = h.s;
     starts = starts-is old new parent method address begun held b h;
-    is_carried = ap Some (context-is h.s (request_calls method address) held h.held);
+    is_carried = ap Some (context-is h.s (request_calls old.methods method address) held h.held);
     ended = at;
     ended_told = t;
     handed =
-        e.value h.s (request_calls method address) h.held
-        (none-ends (request_pairs method address));
+        e.value h.s (request_calls old.methods method address) h.held
+        (none-ends (request_pairs old.methods method address));
     untraced = n;
   }
 
@@ -76,7 +76,7 @@ module _ {S R C D P : Type 0} (meaning : S → SamplerMeaning) (stream : R → S
       (span made : Option HeldSpan) (fields : List Field) (has_ended : Bool)
       → tells old.clock begun → tells old.clock at
       → HasStartedOrNone (tracer_view meaning old.tracer) (stream old.rng)
-      (stream new.rng) parent method address begun made
+      (stream new.rng) old.methods parent method address begun made
       → (span ≡ None) ⊎ (span ≡ made)
       → fields ≡ carried_by (option_map (λ (held : HeldSpan). held.context) span)
       → asks fields old.dial new.dial result
@@ -85,16 +85,18 @@ module _ {S R C D P : Type 0} (meaning : S → SamplerMeaning) (stream : R → S
       × EndsAs admits (closing_calls result) at held before after)
       → (has_ended ≡ false → after ≡ before)
       → new.untraced ≡ (if has_ended then old.untraced else counted_requests (old.untraced + 1))
-      → new.tracer ≡ old.tracer → new.clock ≡ old.clock
+      → new.tracer ≡ old.tracer → new.clock ≡ old.clock → new.methods ≡ old.methods
       → Sends meaning stream tells admits asks old parent method address before result new after
   sends asks old new parent method address before after result begun at span made fields has_ended
-      begun_told ended_told started sent_with carried asked ends none counted tracer clock =
+      begun_told ended_told started sent_with carried asked ends none counted tracer clock methods
+      =
       record {
         context = option_map (λ (held : HeldSpan). held.context) span;
         asked = subst (λ f. asks f old.dial new.dial result) carried asked;
         traced = by has_ended ends none counted;
         tracer = tracer;
         clock = clock;
+        methods = methods;
       }
     where
       context-of : Option HeldSpan → Option Context
@@ -103,15 +105,15 @@ module _ {S R C D P : Type 0} (meaning : S → SamplerMeaning) (stream : R → S
       has-started : (x y : Option HeldSpan) (held : HeldSpan) → x ≡ Some held
           → (x ≡ None) ⊎ (x ≡ y)
           → HasStartedOrNone (tracer_view meaning old.tracer) (stream old.rng)
-          (stream new.rng) parent method address begun y
+          (stream new.rng) old.methods parent method address begun y
           → HasStarted (tracer_view meaning old.tracer) (stream old.rng)
-          (stream new.rng) parent method address begun held
+          (stream new.rng) old.methods parent method address begun held
       has-started x y held is (inl none) s = let no : Some held ≡ None = sym is ∙ none in cc
       has-started x None held is (inr same) s = let no : Some held ≡ None = sym is ∙ same in cc
       has-started x (Some y) held is (inr same) s =
           let one : y ≡ held = cc in
           subst (HasStarted (tracer_view meaning old.tracer) (stream old.rng)
-          (stream new.rng) parent method address begun)
+          (stream new.rng) old.methods parent method address begun)
           one s
 
       with-span : (x : Option HeldSpan) (held : HeldSpan) → x ≡ Some held

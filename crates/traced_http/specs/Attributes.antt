@@ -15,17 +15,18 @@ use Rattle.http.specs.StatusCode.{code_digits}
 use Rattle.model_span.specs.Attributes.{Attribute}
 use Rattle.trace_api.specs.Endings.{Ending, int_pair, text_pair}
 use Rattle.traced_http.specs.declared.server.start.ServerName.{ServerName}
-use Rattle.traced_http.specs.Methods.{method_value, original_method}
+use Rattle.traced_http.specs.Methods.{original_method, shown_method}
 use Rattle.traced_http.specs.Queries.{redacted_query}
 use Rattle.traced_http.specs.Starts.{text_pairs}
 
--- what a server is reached by
+-- what a server is reached by, and the methods that its spans are named by
 pub record Server : Type 0 where
   pub address : List ℕ
   pub port : ℕ
+  pub methods : List (List ℕ)
 
-abbrev pub server_view : ServerName → Server
-server_view s = record { address = s.address.now; port = s.port }
+abbrev pub server_view : ServerName → List (List ℕ) → Server
+server_view s known = record { address = s.address.now; port = s.port; methods = known }
 
 -- 1.0, or else 1.1: a server of HTTP/1 answers these
 abbrev pub text_by : Http → List ℕ
@@ -51,7 +52,7 @@ shown_query head = option_map redacted_query (uri_query head.uri)
 -- the attributes that each request has
 abbrev pub own_pairs : Parts → Server → List Attribute
 own_pairs head server =
-    text_pair (codes "http.request.method") (method_value head.method)
+    text_pair (codes "http.request.method") (shown_method server.methods head.method)
     ∷ text_pair (codes "url.path") (uri_path head.uri)
     ∷ text_pair (codes "url.scheme") (codes "http")
     ∷ text_pair (codes "server.address") server.address
@@ -64,7 +65,7 @@ request_pairs head route server =
     own_pairs head server
     ++ text_pairs (codes "url.query") (shown_query head)
     ++ text_pairs (codes "http.route") route
-    ++ text_pairs (codes "http.request.method_original") (original_method head.method)
+    ++ text_pairs (codes "http.request.method_original") (original_method server.methods head.method)
     ++ text_pairs (codes "user_agent.original") (user_agent head.headers)
 
 -- whether a status says that the server failed (RFC 9110, section 15.6)

@@ -11,7 +11,7 @@ use Rattle.model_span.specs.Spans.{Call, Context, client, set_attribute}
 use Rattle.model_span.specs.Starts.{HeldSpan, StartRequest, Tracer, start_request}
 use Rattle.otlp_http.specs.Address.{Address}
 use Rattle.otlp_http.specs.Replies.{HttpReply}
-use Rattle.traced_http.specs.Methods.{method_name, method_value, original_method}
+use Rattle.traced_http.specs.Methods.{method_name, original_method, shown_method}
 use Rattle.traced_http.specs.Queries.{redacted_path}
 use Rattle.trace_context.specs.Carriers.{Field, outgoing}
 use Rattle.http_client.specs.declared.fault.SendFault.{SendFault}
@@ -25,40 +25,42 @@ abbrev pub full_url : Address → List ℕ
 full_url a = codes "http://" ++ a.host ++ codes ":" ++ decimal a.port ++ redacted_path a.path
 
 -- the attributes that a span starts with
-abbrev pub request_pairs : List ℕ → Address → List Attribute
-request_pairs method a =
-    text_pair (codes "http.request.method") (method_value method)
+abbrev pub request_pairs : List (List ℕ) → List ℕ → Address → List Attribute
+request_pairs known method a =
+    text_pair (codes "http.request.method") (shown_method known method)
     ∷ text_pair (codes "server.address") a.host
     ∷ int_pair (codes "server.port") a.port
     ∷ text_pair (codes "url.full") (full_url a)
-    ∷ text_pairs (codes "http.request.method_original") (original_method method)
+    ∷ text_pairs (codes "http.request.method_original") (original_method known method)
 
 -- the calls that set them
-abbrev pub request_calls : List ℕ → Address → List Call
-request_calls method a = map set_attribute (request_pairs method a)
+abbrev pub request_calls : List (List ℕ) → List ℕ → Address → List Call
+request_calls known method a = map set_attribute (request_pairs known method a)
 
 -- the start that a request of this method asks for: the span is named by the method (Semantic
 -- Conventions, HTTP spans, Name)
-abbrev pub client_start : List ℕ → Option Context → ℕ → StartRequest
-client_start method parent at = start_request parent (method_name method) client at
+abbrev pub client_start : List (List ℕ) → List ℕ → Option Context → ℕ → StartRequest
+client_start known method parent at = start_request parent (method_name known method) client at
 
 -- the span has started for a request of this method to this address
-abbrev pub HasStarted : Tracer → Stream → Stream → Option Context → List ℕ → Address → ℕ → HeldSpan
-    → Type 0
-HasStarted tracer old new parent method address at =
-    StartsSpan tracer old new parent (method_name method) client (request_pairs method address) at
+abbrev pub HasStarted : Tracer → Stream → Stream → List (List ℕ) → Option Context → List ℕ
+    → Address → ℕ → HeldSpan → Type 0
+HasStarted tracer old new known parent method address at =
+    StartsSpan tracer old new parent (method_name known method) client
+    (request_pairs known method address) at
 
 -- no span has started for a request of this method, and why
-abbrev pub HasNotStarted : Tracer → Stream → Stream → Option Context → List ℕ → ℕ → StartFault
-    → Type 0
-HasNotStarted tracer old new parent method at =
-    StartsNone tracer old new parent (method_name method) client at
+abbrev pub HasNotStarted : Tracer → Stream → Stream → List (List ℕ) → Option Context → List ℕ → ℕ
+    → StartFault → Type 0
+HasNotStarted tracer old new known parent method at =
+    StartsNone tracer old new parent (method_name known method) client at
 
 -- the span that has started for the request, or none, since it could not start
-abbrev pub HasStartedOrNone : Tracer → Stream → Stream → Option Context → List ℕ → Address → ℕ
-    → Option HeldSpan → Type 0
-HasStartedOrNone tracer old new parent method address at =
-    StartsIfAny tracer old new parent (method_name method) client (request_pairs method address) at
+abbrev pub HasStartedOrNone : Tracer → Stream → Stream → List (List ℕ) → Option Context → List ℕ
+    → Address → ℕ → Option HeldSpan → Type 0
+HasStartedOrNone tracer old new known parent method address at =
+    StartsIfAny tracer old new parent (method_name known method) client
+    (request_pairs known method address) at
 
 -- the fields that carry the context of a span, if there is one
 abbrev pub carried_by : Option Context → List Field

@@ -8,3 +8,4 @@ pub mod Carried
 pub mod ServerSpans
 pub mod RequestSpans
 pub mod Serves
+pub mod Dates

@@ -25,6 +25,8 @@ pub record ClientWith (S R C D : Type 0) : Type 0 where
   pub clock : C
   -- what gives the links
   pub dial : D
+  -- the methods that its spans are named by
+  pub methods : List (List ℕ)
   -- how many requests have no span
   pub untraced : ℕ
 
@@ -41,7 +43,7 @@ module _ {S R C D P : Type 0} (meaning : S → SamplerMeaning) (stream : R → S
       (s : StartedSpan) (new : ClientWith S R C D) : Type 0 where
     pub begun : ℕ
     pub begun_told : tells old.clock begun
-    pub started : started_span (tracer_view meaning old.tracer) (client_start method parent begun)
+    pub started : started_span (tracer_view meaning old.tracer) (client_start old.methods method parent begun)
         (words_of (stream old.rng)) ≡ Some s
     pub spent : Spends (ids_words (valid_parent parent)) (stream old.rng) (stream new.rng)
 
@@ -57,7 +59,7 @@ module _ {S R C D P : Type 0} (meaning : S → SamplerMeaning) (stream : R → S
     pub ended : ℕ
     pub ended_told : tells old.clock ended
     pub handed : Handed admits s
-        (request_calls method address ++ closing_calls result ++ end ended ∷ [])
+        (request_calls old.methods method address ++ closing_calls result ++ end ended ∷ [])
         before after
     pub untraced : new.untraced ≡ old.untraced
 
@@ -71,7 +73,7 @@ module _ {S R C D P : Type 0} (meaning : S → SamplerMeaning) (stream : R → S
     pub begun_told : tells old.clock begun
     pub span : Option HeldSpan
     pub started : HasStartedOrNone (tracer_view meaning old.tracer) (stream old.rng)
-        (stream new.rng) parent method address begun span
+        (stream new.rng) old.methods parent method address begun span
     pub carried : (context ≡ None) ⊎ (context ≡ option_map (λ held. held.context) span)
     pub untouched : after ≡ before
     pub untraced : new.untraced ≡ counted_requests (old.untraced + 1)
@@ -87,3 +89,4 @@ module _ {S R C D P : Type 0} (meaning : S → SamplerMeaning) (stream : R → S
         ⊎ IsUntraced old parent method address context before new after
     pub tracer : new.tracer ≡ old.tracer
     pub clock : new.clock ≡ old.clock
+    pub methods : new.methods ≡ old.methods

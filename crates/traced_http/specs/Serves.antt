@@ -17,6 +17,7 @@ use Rattle.traced_http.specs.declared.server.service.TracedService.{TracedServic
 use Rattle.trace_api.specs.Counts.{counted_requests}
 use Rattle.trace_api.specs.Endings.{ending_calls}
 use Rattle.trace_api.specs.Ends.{Handed}
+use Rattle.traced_http.specs.Dates.{SaysDate}
 use Rattle.traced_http.specs.Attributes.{Server, ending_of, server_view}
 use Rattle.traced_http.specs.Carried.{carried}
 use Rattle.traced_http.specs.RequestSpans.{LentSpan, counted, lent_span}
@@ -40,7 +41,7 @@ pub record Serving (S H P R C : Type 0) : Type 0 where
 abbrev pub serving : {S H P R C : Type 0} → TracedService S H P R C → Serving S H P R C
 serving s = record {
   tracer = s.tracing.tracer;
-  server = server_view s.tracing.server;
+  server = server_view s.tracing.server s.known;
   rng = s.tracing.rng;
   clock = s.tracing.clock;
   handler = s.handler;
@@ -81,7 +82,7 @@ module _ {S H P R C : Type 0} (meaning : S → SamplerMeaning) (stream : R → S
     pub ended_told : tells old.clock ended
     pub s : StartedSpan
     pub started : started_span (tracer_view meaning old.tracer)
-        (server_start route request begun) (words_of (stream old.rng)) ≡ Some s
+        (server_start route old.server request begun) (words_of (stream old.rng)) ≡ Some s
     pub spent : Spends (ids_words (valid_parent (carried (head_of request).headers)))
         (stream old.rng) (stream new.rng)
     pub more : List Call
@@ -107,14 +108,19 @@ module _ {S H P R C : Type 0} (meaning : S → SamplerMeaning) (stream : R → S
     pub untraced : new.untraced ≡ counted_requests (old.untraced + 1)
 
   -- A request is answered: by its handler, once, and within a span, which is handed over once. The
-  -- calls of the handler on it that were left out are counted.
+  -- answer is the handler's, and says when it was made. The calls of the handler on the span that
+  -- were left out are counted.
   pub record Serves (old : Serving S H P R C) (request : Request (List ℕ)) (response : Response)
       (new : Serving S H P R C) : Type 0 where
     pub lent : Option HeldSpan
     pub after : P
     pub left : LentSpan
-    pub answered : Answered answers old.handler old.pass (lent_span lent) request response
+    pub made : Response
+    pub answered : Answered answers old.handler old.pass (lent_span lent) request made
         new.handler after left
+    pub made_at : ℕ
+    pub made_told : tells old.clock made_at
+    pub dated : SaysDate made_at made response
     pub traced : IsTraced old request lent response after left.span new
         ⊎ IsUntraced old request lent after new
     pub left_out : new.left_out ≡ counted (old.left_out + left.left_out)

@@ -8,4 +8,4 @@ mod query;
 pub mod server;
 mod span;
 
-pub use method::{is_known, method_name, method_value, original_method};
+pub use method::KnownMethods;

@@ -5,6 +5,7 @@
 
 mod attributes;
 mod carrier;
+mod date;
 mod handler;
 mod lending;
 mod name;

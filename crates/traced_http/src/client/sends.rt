@@ -10,11 +10,13 @@ ghost use Rattle.otlp_http.specs.Outcomes.{reply_view};
 ghost use Rattle.otlp_ids.specs.SpanContext.{parent_view};
 ghost use Rattle.http_client.specs.Refusals as refusals;
 ghost use Rattle.http_client.specs.Requests.{get_request, request_view};
+ghost use Rattle.traced_http.specs.Methods.{standard_methods};
 ghost use Rattle.traced_http.specs.Sends.{Sends};
 ghost use Rattle.traced_http.specs.ClientSpans.{ending_of, failure_of, is_failure, version_calls};
 ghost use Rattle.traced_http.specs.ClientSpans.{version_of};
 
 use crate::client::start::{Begun, begin};
+use crate::method::KnownMethods;
 use crate::span::end_if_any;
 use http_client::{
     ClientRequest, KeptConnection, NewConnections, SendFault, Transport, refusal_of,
@@ -49,6 +51,7 @@ pub struct ClientParts<'a, S: Sampler, R, C, D> {
 pub struct Client<'a, S: Sampler, R, C, T> {
     alloc: Global,
     parts: ClientParts<'a, S, R, C, T>,
+    known: KnownMethods,
     untraced: u64,
 }
 
@@ -62,6 +65,7 @@ impl<'a, S: Sampler, R, C, T> Model for Client<'a, S, R, C, T> {
       rng = c.parts.rng;
       clock = c.parts.clock;
       dial = c.parts.dial;
+      methods = c.known;
       untraced = c.untraced;
     } };
 }
@@ -144,6 +148,7 @@ impl<'a, S: Sampler, R, C, D: Dial> Client<'a, S, R, C, NewConnections<D>> {
           rng = parts.entry.rng;
           clock = parts.entry.clock;
           dial = parts.entry.dial;
+          methods = standard_methods;
           untraced = 0;
         } }
     {
@@ -162,6 +167,7 @@ impl<'a, S: Sampler, R, C, D: Dial> Client<'a, S, R, C, NewConnections<D>> {
         Client {
             alloc,
             parts,
+            known: KnownMethods::default(),
             untraced: 0,
         }
     }
@@ -176,6 +182,7 @@ impl<'a, S: Sampler, R, C, D: Dial> Client<'a, S, R, C, KeptConnection<D>> {
           rng = parts.entry.rng;
           clock = parts.entry.clock;
           dial = record { dial = parts.entry.dial; kept = None };
+          methods = standard_methods;
           untraced = 0;
         } }
     {
@@ -194,6 +201,7 @@ impl<'a, S: Sampler, R, C, D: Dial> Client<'a, S, R, C, KeptConnection<D>> {
         Client {
             alloc,
             parts,
+            known: KnownMethods::default(),
             untraced: 0,
         }
     }
@@ -206,6 +214,14 @@ where
     C: Clock,
     T: Transport,
 {
+    /// The same with these known methods in place of the standard ones: any other is `_OTHER` in
+    /// `http.request.method`, and `HTTP` in the name of a span.
+    pub fn with_known_methods(self, known: KnownMethods) -> Self
+        ensures { result ≡ record self.entry { methods = known } }
+    {
+        Client { known, ..self }
+    }
+
     /// How many requests have no span, since memory for it was refused, or the generator gave only
     /// zeros. It stops at 2^64 - 1.
     pub fn untraced(&self) -> u64
@@ -310,6 +326,7 @@ where
             self.alloc,
             &parts.tracer,
             &mut parts.rng,
+            &self.known,
             parent,
             request.method,
             target,

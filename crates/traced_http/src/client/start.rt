@@ -12,7 +12,7 @@ ghost use Rattle.traced_http.specs.ClientSpans as spec;
 ghost use Rattle.traced_http.specs.ClientSpans.{HasNotStarted, HasStarted, HasStartedOrNone};
 ghost use Rattle.traced_http.specs.ClientSpans.{carried_by};
 
-use crate::method::{method_name, method_value, original_method};
+use crate::method::KnownMethods;
 use crate::query::push_path;
 use crate::span::{Named, push_text, start_with};
 use itoa::Buffer;
@@ -58,16 +58,17 @@ fn full_url(alloc: Global, target: &Target) -> Result<String, OutOfMemory>
 /// `OutOfMemory` where memory was refused.
 fn request_pairs<'a>(
     alloc: Global,
+    known: &KnownMethods,
     method: &'a str,
     target: &'a Target,
     url: &'a str,
 ) -> Result<Vec<KeyValue<'a>>, OutOfMemory>
     requires { url.now ≡ spec.full_url target.now }
     ensures { IfOk result (λ pairs. lent_pairs pairs.items
-        ≡ spec.request_pairs method.now target.now) }
+        ≡ spec.request_pairs known.now method.now target.now) }
 {
     let mut pairs = vec![in alloc;
-        text_pair("http.request.method", method_value(method)),
+        text_pair("http.request.method", known.shown(method)),
         text_pair("server.address", target.host()),
         KeyValue {
             key: "server.port",
@@ -78,7 +79,7 @@ fn request_pairs<'a>(
     push_text(
         &mut pairs,
         "http.request.method_original",
-        original_method(method),
+        known.original(method),
     )?;
     Ok(pairs)
 }
@@ -93,21 +94,22 @@ fn start<S: Sampler, R: Rng>(
     alloc: Global,
     tracer: &Tracer<'_, S>,
     rng: &mut R,
+    known: &KnownMethods,
     parent: Option<&SpanContext>,
     method: &str,
     target: &Target,
     at: u64,
 ) -> Result<Span, StartFault>
     ensures started { IfOk result (HasStarted (tracer_view S.meaning tracer.now)
-        (R.stream rng.old) (R.stream rng.new) (parent_view parent.entry) method.now target.now
+        (R.stream rng.old) (R.stream rng.new) known.now (parent_view parent.entry) method.now target.now
         at) }
     ensures none { IfErr result (HasNotStarted (tracer_view S.meaning tracer.now)
-        (R.stream rng.old) (R.stream rng.new) (parent_view parent.entry) method.now at) }
+        (R.stream rng.old) (R.stream rng.new) known.now (parent_view parent.entry) method.now at) }
 {
     let url = full_url(alloc, target)?;
-    let attributes = request_pairs(alloc, method, target, &url)?;
+    let attributes = request_pairs(alloc, known, method, target, &url)?;
     let named = Named {
-        name: method_name(method),
+        name: known.name(method),
         kind: Kind::Client,
     };
     start_with(alloc, tracer, rng, parent, named, &attributes, at)
@@ -133,20 +135,21 @@ fn start_carried<S: Sampler, R: Rng>(
     alloc: Global,
     tracer: &Tracer<'_, S>,
     rng: &mut R,
+    known: &KnownMethods,
     parent: Option<&SpanContext>,
     method: &str,
     target: &Target,
     at: u64,
 ) -> Result<(Span, Vec<Field>), StartFault>
     ensures started { IfOk result (λ made. HasStarted (tracer_view S.meaning tracer.now)
-        (R.stream rng.old) (R.stream rng.new) (parent_view parent.entry) method.now target.now
+        (R.stream rng.old) (R.stream rng.new) known.now (parent_view parent.entry) method.now target.now
         at made.0) }
     ensures carried { IfOk result (λ made. fields_view made.1.items ≡ outgoing made.0.context) }
     ensures none { IfErr result (λ _. (made : Option HeldSpan) × HasStartedOrNone
-        (tracer_view S.meaning tracer.now) (R.stream rng.old) (R.stream rng.new)
+        (tracer_view S.meaning tracer.now) (R.stream rng.old) (R.stream rng.new) known.now
         (parent_view parent.entry) method.now target.now at made) }
 {
-    let span = start(alloc, tracer, rng, parent, method, target, at)?;
+    let span = start(alloc, tracer, rng, known, parent, method, target, at)?;
     let fields = fields_of(alloc, span.context())?;
     Ok((span, fields))
 }
@@ -158,18 +161,19 @@ pub(crate) fn begin<S: Sampler, R: Rng>(
     alloc: Global,
     tracer: &Tracer<'_, S>,
     rng: &mut R,
+    known: &KnownMethods,
     parent: Option<&SpanContext>,
     method: &str,
     target: &Target,
     at: u64,
 ) -> Begun
     ensures started { (made : Option HeldSpan) × HasStartedOrNone (tracer_view S.meaning tracer.now)
-        (R.stream rng.old) (R.stream rng.new) (parent_view parent.entry) method.now target.now
+        (R.stream rng.old) (R.stream rng.new) known.now (parent_view parent.entry) method.now target.now
         at made × ((result.span ≡ None) ⊎ (result.span ≡ made)) }
     ensures carried { fields_view result.fields.items
         ≡ carried_by (option_map (λ held. held.context) result.span) }
 {
-    match start_carried(alloc, tracer, rng, parent, method, target, at) {
+    match start_carried(alloc, tracer, rng, known, parent, method, target, at) {
         Ok((span, fields)) => Begun {
             span: Some(span),
             fields,

@@ -6,7 +6,7 @@ ghost use Rattle.http.specs.Request.{head_of};
 ghost use Rattle.trace_api.specs.Lent.{lent_pairs};
 ghost use Rattle.traced_http.specs.Attributes as spec;
 
-use crate::method::{method_value, original_method};
+use crate::method::KnownMethods;
 use crate::query::redacted_query;
 use crate::server::start::ServerName;
 use crate::span::push_text;
@@ -73,6 +73,7 @@ pub(crate) fn shown_query(
 /// `OutOfMemory` where memory was refused.
 pub(crate) fn request_pairs<'a>(
     alloc: Global,
+    known: &KnownMethods,
     request: &'a Request<Bytes>,
     query: Option<&'a str>,
     route: Option<&'a str>,
@@ -81,11 +82,11 @@ pub(crate) fn request_pairs<'a>(
     requires { option_copied query ≡ spec.shown_query (head_of request.now) }
     ensures { IfOk result (λ pairs. lent_pairs pairs.items
         ≡ spec.request_pairs (head_of request.now) (option_copied route.entry)
-        (spec.server_view server.now)) }
+        (spec.server_view server.now known.now)) }
 {
     let method = request.method().as_str();
     let mut pairs = vec![in alloc;
-        text_pair("http.request.method", method_value(method)),
+        text_pair("http.request.method", known.shown(method)),
         text_pair("url.path", request.uri().path()),
         text_pair("url.scheme", "http"),
         text_pair("server.address", server.address),
@@ -100,7 +101,7 @@ pub(crate) fn request_pairs<'a>(
     push_text(
         &mut pairs,
         "http.request.method_original",
-        original_method(method),
+        known.original(method),
     )?;
     push_text(
         &mut pairs,

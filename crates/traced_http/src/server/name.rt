@@ -4,7 +4,7 @@ ghost use Rattle.std.specs.Prelude.{◌≡◌, IfOk, string_bytes};
 ghost use Rattle.std.specs.Option.{option_copied};
 ghost use Rattle.traced_http.specs.Methods as spec;
 
-use crate::method::method_name;
+use crate::method::KnownMethods;
 use otlp_ids::OutOfMemory;
 use std::alloc::Global;
 
@@ -16,13 +16,14 @@ use std::alloc::Global;
 /// `OutOfMemory` where memory was refused.
 pub(crate) fn span_name(
     alloc: Global,
+    known: &KnownMethods,
     method: &str,
     route: Option<&str>,
 ) -> Result<String, OutOfMemory>
     ensures { IfOk result (λ name. string_bytes name
-        ≡ spec.span_name method.now (option_copied route.entry)) }
+        ≡ spec.span_name known.now method.now (option_copied route.entry)) }
 {
-    let mut name = String::from_str(alloc, method_name(method))?;
+    let mut name = String::from_str(alloc, known.name(method))?;
     let Some(route) = route else {
         return Ok(name);
     };

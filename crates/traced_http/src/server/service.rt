@@ -4,8 +4,11 @@ ghost use Rattle.std.specs.Prelude.{◌≡◌, IsOk, OnErr, OnOk};
 ghost use Rattle.http_server.specs.Response.{IsBlank};
 ghost use Rattle.trace_api.specs.Endings.{ending_view};
 ghost use Rattle.traced_http.specs.Attributes.{ending_of, server_view};
+ghost use Rattle.traced_http.specs.Methods.{standard_methods};
 ghost use Rattle.traced_http.specs.Serves.{Serves, serving};
 
+use crate::method::KnownMethods;
+use crate::server::date::say_date;
 use crate::server::handler::Handler;
 use crate::server::lending::{Left, lend};
 use crate::server::start::Tracing;
@@ -21,6 +24,9 @@ use trace_api::{Clock, EndPass, Ending, count_untraced};
 
 /// A handler whose requests have spans, each of which ends on the pass.
 ///
+/// A response says when it was made, by the clock, unless the handler's does (`Date`, RFC 9110,
+/// section 6.6.1). Where memory for that is refused, it doesn't.
+///
 /// It never fails, so each request of a connection that `http_server` reads is answered: a handler
 /// without memory by 503, whose span says so. A request whose span takes memory that is refused is
 /// answered without one, and counted.
@@ -30,6 +36,7 @@ pub struct TracedService<'a, S: Sampler, H, P, R, C> {
     tracing: Tracing<'a, S, R, C>,
     handler: H,
     pass: &'a mut P,
+    known: KnownMethods,
     untraced: u64,
     left_out: u64,
 }
@@ -45,7 +52,7 @@ impl<'a, S: Sampler, H, P, R, C> TracedService<'a, S, H, P, R, C> {
         ensures same_pass { result.pass.ghost_name ≡ pass.entry.ghost_name }
         ensures serving { serving result ≡ record {
           tracer = tracing.entry.tracer;
-          server = server_view tracing.entry.server;
+          server = server_view tracing.entry.server standard_methods;
           rng = tracing.entry.rng;
           clock = tracing.entry.clock;
           handler = handler;
@@ -59,9 +66,21 @@ impl<'a, S: Sampler, H, P, R, C> TracedService<'a, S, H, P, R, C> {
             tracing,
             handler,
             pass,
+            known: KnownMethods::default(),
             untraced: 0,
             left_out: 0,
         }
+    }
+
+    /// The same with these known methods in place of the standard ones: any other is `_OTHER` in
+    /// `http.request.method`, and `HTTP` in the name of a span.
+    pub fn with_known_methods(self, known: KnownMethods) -> TracedService<'a, S, H, P, R, C>
+        ensures same_pass { result.pass.ghost_name ≡ self.entry.pass.ghost_name }
+        ensures serving { serving result ≡ record (serving self.entry) {
+          server = server_view self.entry.tracing.server known;
+        } }
+    {
+        TracedService { known, ..self }
     }
 
     /// How many requests were answered and have no span, since memory for it was refused, or the
@@ -127,10 +146,11 @@ where
     {
         let begun = self.tracing.clock.now();
         let route = self.handler.route(request);
-        let span = self.tracing.start_if_any(self.alloc, route, request, begun);
+        let span = self.tracing.start_if_any(self.alloc, &self.known, route, request, begun);
         let Left { span, left_out } = lend(&mut self.handler, request, span, self.pass, response);
         let ended = self.tracing.clock.now();
         let has_ended = end_if_any(span, ending_of(response.status), self.pass, ended);
+        say_date(self.alloc, response, ended);
         self.untraced = count_untraced(self.untraced, has_ended);
         self.left_out = self.left_out.saturating_add(left_out);
         Ok(())

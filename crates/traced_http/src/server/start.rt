@@ -6,6 +6,7 @@ ghost use Rattle.trace_api.specs.Starts.{tracer_view};
 ghost use Rattle.traced_http.specs.Attributes.{server_view};
 ghost use Rattle.traced_http.specs.ServerSpans.{HasNotStarted, HasStarted, HasStartedOrNone};
 
+use crate::method::KnownMethods;
 use crate::server::attributes::{request_pairs, shown_query};
 use crate::server::carrier::caller_of;
 use crate::server::name::span_name;
@@ -52,24 +53,25 @@ impl<'a, S: Sampler, R: Rng, C> Tracing<'a, S, R, C> {
     fn start(
         &mut self,
         alloc: Global,
+        known: &KnownMethods,
         route: Option<&str>,
         request: &Request<Bytes>,
         at: u64,
     ) -> Result<Span, StartFault>
         ensures started { IfOk result (HasStarted (tracer_view S.meaning self.old.tracer)
             (R.stream self.old.rng) (R.stream self.new.rng) (option_copied route.entry)
-            (server_view self.old.server) request.now at) }
+            (server_view self.old.server known.now) request.now at) }
         ensures none { IfErr result (HasNotStarted (tracer_view S.meaning self.old.tracer)
             (R.stream self.old.rng) (R.stream self.new.rng) (option_copied route.entry)
-            request.now at) }
+            (server_view self.old.server known.now) request.now at) }
         ensures tracer { self.new.tracer ≡ self.old.tracer }
         ensures clock { self.new.clock ≡ self.old.clock }
         ensures server { self.new.server ≡ self.old.server }
     {
         let caller = caller_of(alloc, request.headers())?;
-        let name = span_name(alloc, request.method().as_str(), route)?;
+        let name = span_name(alloc, known, request.method().as_str(), route)?;
         let query = shown_query(alloc, request)?;
-        let pairs = request_pairs(alloc, request, query.as_deref(), route, &self.server)?;
+        let pairs = request_pairs(alloc, known, request, query.as_deref(), route, &self.server)?;
         let parent = caller.as_ref();
         let named = Named {
             name: &name,
@@ -91,18 +93,19 @@ impl<'a, S: Sampler, R: Rng, C> Tracing<'a, S, R, C> {
     pub(crate) fn start_if_any(
         &mut self,
         alloc: Global,
+        known: &KnownMethods,
         route: Option<&str>,
         request: &Request<Bytes>,
         at: u64,
     ) -> Option<Span>
         ensures started { HasStartedOrNone (tracer_view S.meaning self.old.tracer)
             (R.stream self.old.rng) (R.stream self.new.rng) (option_copied route.entry)
-            (server_view self.old.server) request.now at result }
+            (server_view self.old.server known.now) request.now at result }
         ensures tracer { self.new.tracer ≡ self.old.tracer }
         ensures clock { self.new.clock ≡ self.old.clock }
         ensures server { self.new.server ≡ self.old.server }
     {
-        match self.start(alloc, route, request, at) {
+        match self.start(alloc, known, route, request, at) {
             Ok(span) => Some(span),
             Err(_) => None,
         }

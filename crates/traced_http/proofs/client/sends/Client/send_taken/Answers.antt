@@ -16,4 +16,4 @@ returns g c =
     (closes _ _ _ _ _ _ _ _ c.say_version-said.ensures
     (ends-as _ _ _ _ _ _ _ _ c.ending_of.ensures c.end_if_any-has_ended.ensures.ended))
     c.end_if_any-has_ended.ensures.untouched
-    c.count_untraced-self-inside.ensures refl refl)
+    c.count_untraced-self-inside.ensures refl refl refl)

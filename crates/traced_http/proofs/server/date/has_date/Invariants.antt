@@ -1,0 +1,11 @@
+use Rattle.std.proofs.Common.{◌≡◌, length}
+use Rattle.http_server.specs.Response.{fields}
+use Rattle.traced_http.specs.Dates.{has_date}
+use Rattle.traced_http.proofs.server.date.has_date.Given as goal
+
+-- those that are done are others
+abbrev pub invariant-loop-rest : goal.invariant-loop-rest
+invariant-loop-rest l = has_date (fields l.rest) ≡ has_date (fields l.headers)
+
+abbrev pub decreases-loop-rest : goal.decreases-loop-rest
+decreases-loop-rest l = length l.rest
