@@ -10,5 +10,7 @@ mod kept_client;
 mod kept_side;
 mod probe;
 mod requests;
+mod sockets;
 mod spans;
 mod standard_cases;
+mod steps;

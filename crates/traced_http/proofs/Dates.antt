@@ -13,5 +13,6 @@ pub is-dated : (at : ℕ) (old new : List Header) (date : HttpDate) (name text :
     → value ≡ plain_value text → new ≡ old ++ (name, value.bytes) ∷ []
     → IsDated at old new
 is-dated at old new date name text value is name_is text_is value_is added =
-    let bytes : value.bytes ≡ date_text date = ap (λ (v : FieldValue). v.bytes) value_is ∙ text_is in
+    let bytes : value.bytes ≡ date_text date =
+    ap (λ (v : FieldValue). v.bytes) value_is ∙ text_is in
     (date, is, added ∙ rw (name_is, bytes) refl)

@@ -9,7 +9,8 @@ use Rattle.std.specs.List.{after_first, before_first, list_any, position_or_len}
 use Rattle.traced_http.specs.Queries.{is_question, redacted_path, redacted_query}
 
 -- The list made of one more lent item is the list so far and what is made of this item.
-pub joined_more : {Y : Type 0} (f : List ℕ → List Y) (xs : List (Bor (List ℕ))) (i : ℕ) (d : Bor (List ℕ))
+pub joined_more : {Y : Type 0} (f : List ℕ → List Y) (xs : List (Bor (List ℕ))) (i : ℕ)
+    (d : Bor (List ℕ))
     → i < length xs
     → flat_map f (map (λ x. x.now) (take (i + 1) xs))
     ≡ flat_map f (map (λ x. x.now) (take i xs)) ++ f (get_or xs i d).now

@@ -133,7 +133,8 @@ module _ {S H P R C : Type 0} (meaning : S → SamplerMeaning) (stream : R → S
           × EndsAs admits (ending_calls (ending_of response.status)) at held after new.pass)
           → (b ≡ false → new.pass ≡ after)
           → new.untraced ≡ (if b then old.untraced else counted_requests (old.untraced + 1))
-          → IsTraced meaning stream tells routes answers admits old request lent response after left.span
+          → IsTraced meaning stream tells routes answers admits old request lent response after
+          left.span
           new
           ⊎ IsUntraced meaning stream tells routes answers admits old request lent after new
       by true e u n = let h = e refl in inl (with-span lent left.span h.0 h.1 started goes h.2 n)

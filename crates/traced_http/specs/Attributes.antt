@@ -65,7 +65,8 @@ request_pairs head route server =
     own_pairs head server
     ++ text_pairs (codes "url.query") (shown_query head)
     ++ text_pairs (codes "http.route") route
-    ++ text_pairs (codes "http.request.method_original") (original_method server.methods head.method)
+    ++ text_pairs (codes "http.request.method_original")
+    (original_method server.methods head.method)
     ++ text_pairs (codes "user_agent.original") (user_agent head.headers)
 
 -- whether a status says that the server failed (RFC 9110, section 15.6)

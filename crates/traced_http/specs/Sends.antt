@@ -43,7 +43,8 @@ module _ {S R C D P : Type 0} (meaning : S → SamplerMeaning) (stream : R → S
       (s : StartedSpan) (new : ClientWith S R C D) : Type 0 where
     pub begun : ℕ
     pub begun_told : tells old.clock begun
-    pub started : started_span (tracer_view meaning old.tracer) (client_start old.methods method parent begun)
+    pub started : started_span (tracer_view meaning old.tracer)
+        (client_start old.methods method parent begun)
         (words_of (stream old.rng)) ≡ Some s
     pub spent : Spends (ids_words (valid_parent parent)) (stream old.rng) (stream new.rng)
 

@@ -71,7 +71,8 @@ module _ {S H P R C : Type 0} (meaning : S → SamplerMeaning) (stream : R → S
   -- attributes of the request, and made more calls on it, none of which is an end. Then it was
   -- handed to the pass that the handler left, with these and what the response says. It starts and
   -- ends at moments that the clock tells.
-  pub record IsTraced (old : Serving S H P R C) (request : Request (List ℕ)) (lent : Option HeldSpan)
+  pub record IsTraced (old : Serving S H P R C) (request : Request (List ℕ))
+      (lent : Option HeldSpan)
       (response : Response) (after : P) (left : Option HeldSpan) (new : Serving S H P R C)
       : Type 0 where
     pub route : Option (List ℕ)

@@ -131,7 +131,11 @@ impl KnownMethods {
     pub fn shown<'a>(&self, method: &'a str) -> &'a str
         ensures { result.now ≡ spec.shown_method self.now method.now }
     {
-        if self.contains(method) { method } else { "_OTHER" }
+        if self.contains(method) {
+            method
+        } else {
+            "_OTHER"
+        }
     }
 
     /// The method as `http.request.method_original` has it: as it is, where it isn't known; else
@@ -139,7 +143,11 @@ impl KnownMethods {
     pub fn original<'a>(&self, method: &'a str) -> Option<&'a str>
         ensures { option_copied result ≡ spec.original_method self.now method.now }
     {
-        if self.contains(method) { None } else { Some(method) }
+        if self.contains(method) {
+            None
+        } else {
+            Some(method)
+        }
     }
 
     /// The method as the name of a span has it: `HTTP` where it isn't known (Semantic Conventions,
@@ -147,6 +155,10 @@ impl KnownMethods {
     pub fn name<'a>(&self, method: &'a str) -> &'a str
         ensures { result.now ≡ spec.method_name self.now method.now }
     {
-        if self.contains(method) { method } else { "HTTP" }
+        if self.contains(method) {
+            method
+        } else {
+            "HTTP"
+        }
     }
 }

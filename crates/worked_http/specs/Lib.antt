@@ -6,3 +6,4 @@ pub mod Replied
 pub mod OtherRules
 pub mod TraceIds
 pub mod Shops
+pub mod LongKeys

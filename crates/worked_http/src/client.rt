@@ -16,6 +16,7 @@ ghost use Rattle.http_client.specs.Refusals.{is_own, refusal};
 ghost use Rattle.http_client.specs.Requests.{get_request, request_text};
 ghost use Rattle.traced_http.specs.ClientSpans.{carried_by, ending_of, request_calls, version_calls};
 ghost use Rattle.traced_http.specs.ClientSpans.{version_of};
+ghost use Rattle.traced_http.specs.Methods.{standard_methods};
 ghost use Rattle.worked_http.specs.Shops.{bare, context, order, replied, shop};
 
 /// The texts of requests (RFC 9112, sections 2.1, 3 and 5), with the context of a span and without
@@ -61,7 +62,7 @@ pub fn answers()
 
 /// The attributes that a span starts with (Semantic Conventions, "HTTP spans", "HTTP client").
 pub fn attributes()
-    ensures known { request_calls (codes "GET") shop ≡
+    ensures known { request_calls standard_methods (codes "GET") shop ≡
         set_attribute (record {
           key = codes "http.request.method";
           value = text (codes "GET");
@@ -76,7 +77,7 @@ pub fn attributes()
           value = text (codes "http://shop.example:8080/items?page=2");
         })
         ∷ [] }
-    ensures unknown { request_calls (codes "BREW") shop ≡
+    ensures unknown { request_calls standard_methods (codes "BREW") shop ≡
         set_attribute (record {
           key = codes "http.request.method";
           value = text (codes "_OTHER");

@@ -1,9 +1,11 @@
 //! What is read and written of the fields that carry the context of a trace.
 
-ghost use Rattle.std.specs.Prelude.{◌≡◌, [], ◌∷◌, Some, None, codes, true, false};
+ghost use Rattle.std.specs.Prelude.{◌≡◌, [], ◌∷◌, ◌++◌, Some, None, codes, true, false};
 ghost use Rattle.trace_context.specs.Traceparent.{kept_flags, traceparent};
 ghost use Rattle.trace_context.specs.Outgoing.{flags_text, traceparent_text};
+ghost use Rattle.trace_context.specs.Keys.{is_key};
 ghost use Rattle.trace_context.specs.Tracestate.{tracestate};
+ghost use Rattle.worked_http.specs.LongKeys.{key_of_256};
 
 /// Texts of `traceparent` (W3C Trace Context, "Examples of HTTP traceparent Headers", "Versioning
 /// of traceparent").
@@ -66,4 +68,24 @@ pub fn tracestates()
     ensures capital { tracestate (codes "A=1" ∷ []) ≡ [] }
     ensures no_value { tracestate (codes "a=1,b=" ∷ []) ≡ [] }
     ensures equals { tracestate (codes "a=1=2" ∷ []) ≡ [] }
+{}
+
+/// Keys of members of `tracestate`: 1 to 256 bytes, the first a letter in lower case or a digit, the
+/// others these, `_`, `-`, `*`, `/` or `@` (W3C Trace Context level 2, "key").
+pub fn keys()
+    ensures letter { is_key (codes "a") ≡ true }
+    ensures digit { is_key (codes "0foo") ≡ true }
+    ensures all { is_key (codes "az09_-*/@") ≡ true }
+    ensures two_signs { is_key (codes "foo@bar@baz") ≡ true }
+    ensures sign_last { is_key (codes "foo@") ≡ true }
+    ensures system_of_15 { is_key (codes "t@vvvvvvvvvvvvvvv") ≡ true }
+    ensures most { is_key key_of_256 ≡ true }
+    ensures too_long { is_key (key_of_256 ++ codes "f") ≡ false }
+    ensures empty { is_key [] ≡ false }
+    ensures sign_first { is_key (codes "@foo") ≡ false }
+    ensures underscore_first { is_key (codes "_foo") ≡ false }
+    ensures capital_first { is_key (codes "Foo") ≡ false }
+    ensures capital { is_key (codes "fOo") ≡ false }
+    ensures dot { is_key (codes "foo.bar") ≡ false }
+    ensures space { is_key (codes "foo ") ≡ false }
 {}

@@ -2,7 +2,8 @@
 use super::equal::assert_equal;
 use super::far_side::{Does, FarSide};
 use super::requests::long_path;
-use super::spans::lines_of;
+use super::spans::{lines_of, moments_of};
+use super::steps::Steps;
 use batch_processor::ManualClock;
 use otlp_http::{Reply, Target};
 use otlp_ids::{SpanContext, SpanId, TraceFlags, TraceId};
@@ -14,7 +15,8 @@ use std::fmt::Write;
 use std::str;
 use std::sync::Arc;
 use std::test::Fail;
-use trace_api::{BodyPass, Provider, WordsRng};
+use trace_api::{BodyPass, Clock, Provider, WordsRng};
+use traced_http::KnownMethods;
 use traced_http::client::{Client, ClientParts, ClientRequest, SendFault};
 
 /// Words of traces and of spans.
@@ -29,6 +31,8 @@ struct Came {
     sent: Vec<u8>,
     /// A line for each span.
     spans: String,
+    /// When each span starts and ends.
+    moments: Vec<(u64, u64)>,
     /// How many requests have no span.
     untraced: u64,
 }
@@ -68,6 +72,21 @@ fn ask_at<S: Sampler + Drop>(
     does: Does,
     asked: &[Asked],
 ) -> Result<Came, Fail> {
+    let clock = ManualClock::new(1_000);
+    ask_by(rt, sampler, clock, "", path, words, does, asked)
+}
+
+/// The same by this clock. The known methods are those that a text lists.
+fn ask_by<S: Sampler + Drop, C: Clock + Drop>(
+    rt: &HostRuntime,
+    sampler: S,
+    clock: C,
+    listed: &str,
+    path: &str,
+    words: &[u64],
+    does: Does,
+    asked: &[Asked],
+) -> Result<Came, Fail> {
     let alloc = rt.alloc();
     let resource = Arc::new(alloc, Resource::new(alloc, Vec::new(alloc)))?;
     let provider = Provider::new(sampler, resource, SpanLimits::default());
@@ -75,10 +94,11 @@ fn ask_at<S: Sampler + Drop>(
     let parts = ClientParts {
         tracer: provider.tracer(Arc::new(alloc, Scope::named(alloc, "test")?)?),
         rng: WordsRng::new(Vec::from_slice(alloc, words)?),
-        clock: ManualClock::new(1_000),
+        clock,
         dial: FarSide { does, sent: &sent },
     };
-    let mut client = Client::new(alloc, parts);
+    let known = KnownMethods::parse(alloc, listed)?;
+    let mut client = Client::new(alloc, parts).with_known_methods(known);
     let target = Target::new(alloc, "shop.example", 8080, path)?;
     let mut pass = BodyPass::new(alloc, 8)?;
     let mut replies = String::new(alloc);
@@ -95,6 +115,7 @@ fn ask_at<S: Sampler + Drop>(
         replies,
         sent: sent.into_inner(),
         spans: lines_of(alloc, pass.spans())?,
+        moments: moments_of(alloc, pass.spans())?,
         untraced,
     })
 }
@@ -233,6 +254,35 @@ fn a_request_without_a_span_is_sent_and_counted(rt: HostRuntime) -> Result<(), F
     assert_equal(&rt, came.sent.as_slice(), sent.as_slice());
     assert_equal(&rt, came.spans.as_str(), "");
     assert_equal(&rt, came.untraced, 1);
+    Ok(())
+}
+
+#[test]
+fn a_span_starts_before_the_request_goes_out_and_ends_after_its_reply(
+    rt: HostRuntime,
+) -> Result<(), Fail> {
+    let asked = [Asked::Get(None), Asked::Get(None)];
+    let (clock, does) = (Steps::after(1_000), Does::Replies(GOOD));
+    let came = ask_by(&rt, AlwaysOn, clock, "", "/", &WORDS, does, &asked)?;
+    let moments: [(u64, u64); 2] = [(1_010, 1_020), (1_030, 1_040)];
+    assert_equal(&rt, came.moments.as_slice(), moments.as_slice());
+    Ok(())
+}
+
+#[test]
+fn a_method_that_a_text_lists_is_known(rt: HostRuntime) -> Result<(), Fail> {
+    let asked = [Asked::Get(None), Asked::Send(request("BREW", &[], b""))];
+    let (clock, does) = (ManualClock::new(1_000), Does::Replies(GOOD));
+    let came = ask_by(&rt, AlwaysOn, clock, "BREW", "/", &WORDS, does, &asked)?;
+    let get = "HTTP Client 0000000000000003 http.request.method=Text(\"_OTHER\") ";
+    assert!(rt; came.spans.as_str().starts_with(get));
+    assert!(rt;
+        came.spans
+            .as_str()
+            .contains(" http.request.method_original=Text(\"GET\") ")
+    );
+    let brew = "\nBREW Client 0000000000000006 http.request.method=Text(\"BREW\") ";
+    assert!(rt; came.spans.as_str().contains(brew));
     Ok(())
 }
 

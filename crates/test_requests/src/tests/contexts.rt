@@ -97,7 +97,7 @@ fn assert_state<A: Allocator + Copy>(
 
 /// Two values of the field, and what is read of them (W3C Trace Context, "Examples of tracestate
 /// HTTP Headers"; its test suite).
-const STATES: [(&str, &str, &str); 14] = [
+const STATES: [(&str, &str, &str); 15] = [
     (
         "rojo=00f067aa0ba902b7",
         "congo=t61rcWkgMzE",
@@ -116,9 +116,10 @@ const STATES: [(&str, &str, &str); 14] = [
     ("foo=", "", ""),
     ("=1", "", ""),
     ("FOO=1", "", ""),
-    ("0foo=1", "", ""),
-    ("foo@=1", "", ""),
-    ("foo@bar@baz=1", "", ""),
+    ("0foo=1", "", "0foo=1"),
+    ("foo@=1", "", "foo@=1"),
+    ("foo@bar@baz=1", "", "foo@bar@baz=1"),
+    ("@foo=1", "", ""),
     ("foo=1=2", "", ""),
 ];
 

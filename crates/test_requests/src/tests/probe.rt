@@ -1,8 +1,8 @@
 //! A service that the tests ask, and its results.
-use super::spans::lines_of;
+use super::spans::{lines_of, moments_of};
 use batch_processor::ManualClock;
 use bytes::{BufMut, Bytes};
-use http::{Request, StatusCode};
+use http::{HeaderName, HeaderValue, Request, StatusCode};
 use http_server::{Config, Connection, Response, Service, serve};
 use otlp_sampler::AlwaysOn;
 use otlp_span::{Kind, Resource, Scope, SpanData, SpanLimits};
@@ -10,7 +10,8 @@ use std::alloc::{AllocError, Global};
 use std::hash::RandomState;
 use std::sync::Arc;
 use std::test::Fail;
-use trace_api::{BodyPass, EndPass, Provider, Tracer, WordsRng};
+use trace_api::{BodyPass, Clock, EndPass, Provider, Tracer, WordsRng};
+use traced_http::KnownMethods;
 use traced_http::server::{Handler, Origin, RequestSpan, ServerName, TracedService, Tracing};
 
 /// The moment of all spans, in nanoseconds since 1970.
@@ -81,6 +82,10 @@ impl<P: EndPass<SpanData>> Handler<P> for Probe<'_> {
             "/fails" => response.status = StatusCode::BAD_GATEWAY,
             "/memory" => return Err(AllocError),
             "/works" => self.work(span, pass),
+            "/dated" => {
+                let value = HeaderValue::from_static("Mon, 07 Nov 1994 00:00:00 GMT");
+                response.add_header(HeaderName::from_static("date"), value)?;
+            }
             _ => response.body.put_slice(b"hi")?,
         }
         Ok(())
@@ -94,6 +99,8 @@ pub(crate) struct Came {
     pub(crate) output: Vec<u8>,
     /// A line for each span.
     pub(crate) spans: String,
+    /// When each span starts and ends.
+    pub(crate) moments: Vec<(u64, u64)>,
     /// The span of the context that the handler was given last.
     pub(crate) given: String,
     /// How many requests have no span, and how many calls were left out.
@@ -111,6 +118,17 @@ fn serve_all<S: Service>(rt: &HostRuntime, service: &mut S, input: &[u8]) -> Res
 
 /// Answers the requests of a connection, whose spans have identifiers by these words.
 pub(crate) fn answer(rt: &HostRuntime, words: &[u64], input: &[u8]) -> Result<Came, Fail> {
+    answer_by(rt, ManualClock::new(AT), "", words, input)
+}
+
+/// The same by this clock. The known methods are those that a text lists.
+pub(crate) fn answer_by<C: Clock + Drop>(
+    rt: &HostRuntime,
+    clock: C,
+    listed: &str,
+    words: &[u64],
+    input: &[u8],
+) -> Result<Came, Fail> {
     let alloc = rt.alloc();
     let resource = Arc::new(alloc, Resource::new(alloc, Vec::new(alloc)))?;
     let provider = Provider::new(AlwaysOn, resource, SpanLimits::default());
@@ -118,7 +136,7 @@ pub(crate) fn answer(rt: &HostRuntime, words: &[u64], input: &[u8]) -> Result<Ca
     let tracing = Tracing {
         tracer: provider.tracer(Arc::new(alloc, Scope::named(alloc, "test")?)?),
         rng: WordsRng::new(Vec::from_slice(alloc, words)?),
-        clock: ManualClock::new(AT),
+        clock,
         server: ServerName {
             address: "example.org",
             port: 80,
@@ -130,7 +148,10 @@ pub(crate) fn answer(rt: &HostRuntime, words: &[u64], input: &[u8]) -> Result<Ca
         tracer: provider.tracer(Arc::new(alloc, Scope::named(alloc, "own")?)?),
         rng: WordsRng::new(Vec::from_slice(alloc, &[0xaa])?),
     };
-    let mut service = TracedService::new(alloc, tracing, probe, &mut pass);
+    let known = KnownMethods::parse(alloc, listed)?;
+    let mut service = TracedService::new(alloc, tracing, probe, &mut pass).with_known_methods(
+        known,
+    );
     let output = serve_all(rt, &mut service, input);
     let given = service.handler().given.as_str().to_string(alloc);
     let untraced = (service.untraced(), service.left_out());
@@ -138,6 +159,7 @@ pub(crate) fn answer(rt: &HostRuntime, words: &[u64], input: &[u8]) -> Result<Ca
     Ok(Came {
         output: output?,
         spans: lines_of(alloc, pass.spans())?,
+        moments: moments_of(alloc, pass.spans())?,
         given: given?,
         untraced,
     })

@@ -1,6 +1,8 @@
 //! Requests, and their spans.
 use super::equal::assert_equal;
-use super::probe::answer;
+use super::probe::{answer, answer_by};
+use super::steps::Steps;
+use batch_processor::ManualClock;
 use std::alloc::Global;
 use std::test::Fail;
 
@@ -27,9 +29,51 @@ fn each_request_has_a_span_whose_parent_is_what_it_carried(rt: HostRuntime) -> R
     assert_equal(&rt, came.spans.as_str(), spans);
     assert_equal(&rt, came.given.as_str(), "0000000000000004");
     assert_equal(&rt, came.untraced, (0, 0));
-    let output = b"HTTP/1.1 200 OK\r\ncontent-length: 2\r\n\r\nhi\
-        HTTP/1.1 502 Bad Gateway\r\ncontent-length: 0\r\n\r\n";
+    let output =
+        b"HTTP/1.1 200 OK\r\ndate: Thu, 01 Jan 1970 00:00:00 GMT\r\ncontent-length: 2\r\n\r\nhi\
+        HTTP/1.1 502 Bad Gateway\r\ndate: Thu, 01 Jan 1970 00:00:00 GMT\r\ncontent-length: 0\r\n\r\n";
     assert_equal(&rt, came.output.as_slice(), output.as_slice());
+    Ok(())
+}
+
+#[test]
+fn a_span_starts_before_its_handler_and_ends_after_it(rt: HostRuntime) -> Result<(), Fail> {
+    let input = b"GET / HTTP/1.1\r\nHost: h\r\n\r\nGET /fails HTTP/1.1\r\nHost: h\r\n\r\n";
+    let came = answer_by(&rt, Steps::after(1_000), "", &WORDS, input)?;
+    let moments: [(u64, u64); 2] = [(1_010, 1_020), (1_030, 1_040)];
+    assert_equal(&rt, came.moments.as_slice(), moments.as_slice());
+    Ok(())
+}
+
+/// The moment of the standard's example, and almost a second more (RFC 9110, section 5.6.7).
+const NOVEMBER: u64 = 784_111_777_999_999_999;
+
+#[test]
+fn an_answer_says_when_it_was_made_unless_the_handler_says_so(rt: HostRuntime) -> Result<(), Fail> {
+    let input = b"GET / HTTP/1.1\r\nHost: h\r\n\r\nGET /dated HTTP/1.1\r\nHost: h\r\n\r\n";
+    let came = answer_by(&rt, ManualClock::new(NOVEMBER), "", &WORDS, input)?;
+    let output = b"HTTP/1.1 200 OK\r\ndate: Sun, 06 Nov 1994 08:49:37 GMT\r\n\
+        content-length: 2\r\n\r\nhi\
+        HTTP/1.1 200 OK\r\ndate: Mon, 07 Nov 1994 00:00:00 GMT\r\n\
+        content-length: 0\r\n\r\n";
+    assert_equal(&rt, came.output.as_slice(), output.as_slice());
+    Ok(())
+}
+
+#[test]
+fn methods_that_a_text_lists_are_known_and_no_others(rt: HostRuntime) -> Result<(), Fail> {
+    let input = b"BREW /item/7 HTTP/1.1\r\nHost: h\r\n\r\nGET / HTTP/1.1\r\nHost: h\r\n\r\n";
+    let came = answer_by(&rt, ManualClock::new(1_000), "BREW, PUT", &WORDS, input)?;
+    let brew = "BREW /item/{id} Server 0000000000000003 http.request.method=Text(\"BREW\") \
+        url.path=Text(\"/item/7\") ";
+    assert!(rt; came.spans.as_str().starts_with(brew));
+    let get = "\nHTTP Server 0000000000000006 http.request.method=Text(\"_OTHER\") ";
+    assert!(rt; came.spans.as_str().contains(get));
+    assert!(rt;
+        came.spans
+            .as_str()
+            .contains(" http.request.method_original=Text(\"GET\") ")
+    );
     Ok(())
 }
 
@@ -42,8 +86,8 @@ fn a_handler_without_memory_is_answered_503(rt: HostRuntime) -> Result<(), Fail>
         network.protocol.version=Text(\"1.0\") http.request.method_original=Text(\"BREW\") \
         http.response.status_code=Int(503) error.type=Text(\"503\")\n";
     assert_equal(&rt, came.spans.as_str(), spans);
-    let output =
-        b"HTTP/1.0 503 Service Unavailable\r\ncontent-length: 0\r\nconnection: close\r\n\r\n";
+    let output = b"HTTP/1.0 503 Service Unavailable\r\ndate: Thu, 01 Jan 1970 00:00:00 GMT\r\n\
+        content-length: 0\r\nconnection: close\r\n\r\n";
     assert_equal(&rt, came.output.as_slice(), output.as_slice());
     Ok(())
 }
@@ -54,7 +98,8 @@ fn a_request_without_a_span_is_answered_and_counted(rt: HostRuntime) -> Result<(
     assert_equal(&rt, came.spans.as_str(), "");
     assert_equal(&rt, came.given.as_str(), "");
     assert_equal(&rt, came.untraced, (1, 0));
-    let output = b"HTTP/1.1 200 OK\r\ncontent-length: 2\r\n\r\nhi";
+    let output = b"HTTP/1.1 200 OK\r\ndate: Thu, 01 Jan 1970 00:00:00 GMT\r\n\
+        content-length: 2\r\n\r\nhi";
     assert_equal(&rt, came.output.as_slice(), output.as_slice());
     Ok(())
 }

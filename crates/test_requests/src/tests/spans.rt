@@ -25,6 +25,15 @@ fn push_span(lines: &mut String, span: &SpanData) -> Result<(), Fail> {
     Ok(())
 }
 
+/// When each span starts and ends, in nanoseconds since 1970.
+pub(crate) fn moments_of(alloc: Global, spans: &[SpanData]) -> Result<Vec<(u64, u64)>, Fail> {
+    let mut moments = Vec::new(alloc);
+    for span in spans {
+        moments.push((span.start_time(), span.end_time()))?;
+    }
+    Ok(moments)
+}
+
 /// A line for each span.
 pub(crate) fn lines_of(alloc: Global, spans: &[SpanData]) -> Result<String, Fail> {
     let mut lines = String::new(alloc);

@@ -146,7 +146,9 @@ where
     {
         let begun = self.tracing.clock.now();
         let route = self.handler.route(request);
-        let span = self.tracing.start_if_any(self.alloc, &self.known, route, request, begun);
+        let span = self
+            .tracing
+            .start_if_any(self.alloc, &self.known, route, request, begun);
         let Left { span, left_out } = lend(&mut self.handler, request, span, self.pass, response);
         let ended = self.tracing.clock.now();
         let has_ended = end_if_any(span, ending_of(response.status), self.pass, ended);

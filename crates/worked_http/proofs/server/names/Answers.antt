@@ -29,3 +29,11 @@ returns-clause-original c = refl
 pub returns-clause-no_original : goal.returns-clause-no_original
 unfolding is_known
 returns-clause-no_original c = refl
+
+pub returns-clause-replaced : goal.returns-clause-replaced
+unfolding is_known
+returns-clause-replaced c = refl
+
+pub returns-clause-no_standard : goal.returns-clause-no_standard
+unfolding is_known
+returns-clause-no_standard c = refl
