@@ -14,7 +14,7 @@ abbrev pub Borrowed : Type 0
 Borrowed = Bor (List ℕ) × Bor (List ℕ)
 
 -- One more pair at the end counts, if it has the name.
-last_of-append : (name : List ℕ) (pairs : Pairs) (pair : List ℕ × List ℕ)
+pub last_of-append : (name : List ℕ) (pairs : Pairs) (pair : List ℕ × List ℕ)
     → last_of name (pairs ++ pair ∷ [])
     ≡ (if bytes_eq pair.0 name then Some pair.1 else last_of name pairs)
 unfolding last_of

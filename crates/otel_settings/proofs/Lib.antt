@@ -1,4 +1,5 @@
 pub mod LastOf
+pub mod Environments
 pub mod LastPairs
 pub mod Ratios
 pub mod Urls

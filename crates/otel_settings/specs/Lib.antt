@@ -1,6 +1,7 @@
 pub mod Variables
 pub mod Pairs
 pub mod LastPairs
+pub mod Environments
 pub mod Faults
 pub mod Readings
 pub mod Samplers

@@ -34,7 +34,7 @@ mod unsupported;
 mod variable;
 
 pub use attributes::resource_attributes;
-pub use environment::settings_of_environment;
+pub use environment::{Environment, settings_of_environment};
 pub use fault::{Instead, SettingFault};
 pub use laws::last_counts;
 pub use pair_texts::resource_pairs;
