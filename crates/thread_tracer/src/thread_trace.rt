@@ -6,6 +6,7 @@ ghost use Rattle.otlp_ids.specs.SpanContext.{context_view, parent_view};
 ghost use Rattle.otlp_span.specs.Parts.{kind_view};
 ghost use Rattle.trace_api.specs.declared.pass.Ended.{Ended as EndedView};
 ghost use Rattle.thread_tracer.specs.Spans.{SpanOfThread};
+ghost use Rattle.thread_tracer.specs.declared.tracer.Refused.{Refused as RefusedView};
 
 use crate::span::ThreadSpan;
 use crate::tracer::{Refused, ThreadTracer};
@@ -31,6 +32,9 @@ pub trait ThreadTrace {
 
     /// The moments that the thread's clock may tell.
     ghost tells: { Self → ℕ → Type 0 };
+
+    /// What was refused so far.
+    ghost refused: { Self → RefusedView };
 
     /// As [`ThreadTracer::start`].
     fn start(&mut self, name: &str, kind: Kind) -> ThreadSpan
@@ -63,7 +67,8 @@ pub trait ThreadTrace {
         ensures { parent_view result ≡ current self.now };
 
     /// As [`ThreadTracer::refused`].
-    fn refused(&self) -> Refused;
+    fn refused(&self) -> Refused
+        ensures { result ≡ refused self.now };
 }
 
 impl<'a, S, R, C, P> ThreadTrace for ThreadTracer<'a, S, R, C, P>
@@ -85,6 +90,11 @@ where
         (thread_state new) };
 
     ghost tells = { λ t at. C.tells (thread_state t).maker.clock at };
+
+    ghost refused = { λ t. record {
+      not_started = (thread_state t).not_started;
+      left_out = (thread_state t).left_out;
+    } };
 
     fn start(&mut self, name: &str, kind: Kind) -> ThreadSpan {
         ThreadTracer::start(self, name, kind)
