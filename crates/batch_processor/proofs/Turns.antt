@@ -930,6 +930,19 @@ module _ (origin : Origin) (a : AnyAccount) (os : List Outcome) (old : WorkerSta
       ap (λ (w : WorkerAccount). state_of origin w os) (told_worker f origin a a' told is)
       ∙ ap (λ (s : WorkerState). record s { account = f s.account }) view
 
+  -- The same of a batch that was settled, whose outcomes are gone then.
+  pub told_settled : (a' : AnyAccount) (os' : List Outcome) (fate : Fate) → os' ≡ []
+      → a' ≡ on_worker (after_settle os fate) a
+      → state_of origin (worker_in a') os'
+      ≡ record old { account = after_settle old.outcomes fate old.account; outcomes = [] }
+  told_settled a' os' fate none told =
+      ap (λ (w : WorkerAccount). state_of origin w os')
+      (told_worker (after_settle os fate) origin a a' told is)
+      ∙ ap (state_of origin (after_settle os fate (worker_in a))) none
+      ∙ ap (λ (s : WorkerState).
+      record s { account = after_settle s.outcomes fate s.account; outcomes = [] })
+      view
+
   -- An unchanged account leaves the worker's state as it was.
   pub same_state : (a' : AnyAccount) → a' ≡ a → state_of origin (worker_in a') os ≡ old
   same_state a' same = ap (λ (h : AnyAccount). state_of origin (worker_in h) os) same ∙ view

@@ -42,6 +42,9 @@ impl Change<BatchState, Setup> for WorkerBegins {
     ghost after = { λ _ setup. worker (setup_view setup) new_worker };
 }
 
+/// What a pass, the worker or the processor holds: its account.
+pub(crate) type Account<J> = account_book::Account<J, BatchState>;
+
 /// The accounts of one processor, before it is made: `BatchProcessor::new` opens them. In contracts
 /// it is their name, by which a type parameter names this one processor.
 pub type BatchBlank = Blank<BatchState>;

@@ -1,38 +1,41 @@
 //! The lock of a processor, and those that take it. Nothing outside this module can take it, so no
 //! encoder, exporter or clock is called under it. What a call hands out is freed by its caller,
 //! without the lock.
-ghost use Rattle.std.specs.Prelude.{◌≡◌, ◌≤◌, IfOk, IsTrue, None, false, reverse, vec_len};
+ghost use Rattle.std.specs.Prelude.{◌≡◌, ◌≤◌, IfOk, IsTrue, None, true, false, reverse, vec_len};
 ghost use Rattle.model_processor.specs.Kept.{IsAccountOf, IsShared};
 ghost use Rattle.model_processor.specs.Passes.{after_drain, after_pop, after_pop_lost};
 ghost use Rattle.model_processor.specs.AnyAccounts.{account_in, after_drained, after_drop};
 ghost use Rattle.model_processor.specs.AnyAccounts.{after_handed, after_left, after_settle};
-ghost use Rattle.model_processor.specs.AnyAccounts.{left_if, on_pass, on_worker};
+ghost use Rattle.model_processor.specs.AnyAccounts.{on_pass, on_worker};
 ghost use Rattle.model_processor.specs.AnyAccounts.{origin_in, pass, processor, worker, worker_in};
 ghost use Rattle.processor_account.specs.Views.{after_end, outcomes_view};
 ghost use Rattle.batch_processor.specs.Answers.{AdmitsSpan};
-ghost use Rattle.batch_processor.specs.Holds.{IsBatchOf, IsNamedBatchOf, IsSettledBatchOf};
-ghost use Rattle.batch_processor.specs.Holds.{PopsBy, TakesBatch, WasAsked, WasCounted};
-ghost use Rattle.batch_processor.specs.Holds.{WasTold};
+ghost use Rattle.batch_processor.specs.Holds.{IsBatchOf, IsSentBatchOf, PopsBy, TakesBatch};
+ghost use Rattle.batch_processor.specs.Holds.{WasAsked, WasCounted, WasTold};
+ghost use Rattle.batch_desk.specs.Batch.{settled_batch};
+ghost use Rattle.model_span.specs.Dropped.{can_drop_batch};
+ghost use Rattle.otlp_span.specs.Dropped.{reason_view};
+ghost use Rattle.retry_core.specs.Retries.{fate_view};
 ghost use Rattle.batch_processor.specs.Views.{after_answer, setup_view};
 
 mod hold;
 mod shared;
 
-use crate::account::BatchState;
+use crate::account::{Account, BatchState};
 use crate::config::Setup;
 use crate::fault::WorkerLeft;
 use crate::pass::{Flushed, Pass};
-use account_book::{Account, Book, Naming};
-use batch_desk::{Batch, Desk, DrainedNames, Mark, NamedBatch, SettledBatch, Totals};
+use account_book::{Book, Naming};
+use batch_desk::{Batch, Desk, DrainedNames, Mark, SettledBatch, Totals, loss_reason};
 use hold::{PAUSE_MS, Waits};
-use otlp_span::{Entry, SpanData, SpanRemains};
-use retry_core::Outcome;
+use otlp_span::{Entry, Reason, SpanData, SpanRemains};
+use retry_core::{Fate, Outcome};
 use shared::Shared;
 use std::alloc::{AllocError, Allocator};
 use std::marker::Model;
 use std::sync::{Arc, Mutex, Wait};
 use std::time::Duration;
-use std::{thread, time};
+use std::{mem, thread, time};
 use trace_api::Ended;
 
 /// The lock of a processor, with what it guards, and those that wait for what is done under it.
@@ -72,7 +75,7 @@ impl<J: Naming, A: Allocator + Copy> Lock<J, A> {
 #[derive(Drop)]
 pub(crate) struct Holder<J: Naming, R, A: Allocator> {
     lock: Arc<Lock<J, A>, A>,
-    account: Account<J, BatchState>,
+    account: Account<J>,
     rt: R,
 }
 
@@ -92,7 +95,7 @@ impl<J: Naming, R: Copy, A: Allocator> Holder<J, R, A> {
     /// `AllocError` where memory was refused.
     pub(crate) fn new(
         lock: &Arc<Lock<J, A>, A>,
-        account: Account<J, BatchState>,
+        account: Account<J>,
         rt: R,
     ) -> Result<Holder<J, R, A>, AllocError>
         ensures { IfOk result (λ holder. holder ≡ account) }
@@ -193,37 +196,42 @@ impl<J: Naming, R: Wait, A: Allocator + Copy> Holder<J, R, A> {
         hold.handed(&mut self.account, batch, body);
     }
 
-    /// The worker drops its batch, which was not handed, and whose spans are named. It leaves by
-    /// the same hold, or it doesn't.
-    pub(crate) fn drop_batch(&mut self, batch: NamedBatch<A>, leaves: bool)
+    /// The worker drops its batch, which was not handed, for this reason. Its spans are named, and
+    /// freed, before the hold.
+    pub(crate) fn drop_batch(&mut self, batch: Batch<A>, reason: Reason)
         requires worker { self.old ≡ worker (origin_in self.old) (worker_in self.old) }
-        requires out { IsNamedBatchOf self.old batch }
-        ensures { self.new
-            ≡ on_worker (left_if leaves) (on_worker (after_drop batch.reason) self.old) }
+        requires out { IsBatchOf self.old batch }
+        requires reason { can_drop_batch (reason_view reason) ≡ true }
+        ensures { self.new ≡ on_worker (after_drop (reason_view reason)) self.old }
     {
+        let batch = batch.into_named(reason);
         let mut hold = self.lock.shared.lock(&self.rt);
-        let after = hold.drop_batch(&mut self.account, batch, leaves);
+        let after = hold.drop_batch(&mut self.account, batch);
         self.lock.waits.end(hold, after);
     }
 
-    /// The worker settles its batch, which was handed, and whose lost spans are named, after these
-    /// outcomes of its attempts. It leaves by the same hold, or it doesn't. Spans that were sent
-    /// are left to the threads that end others; other spans are handed out.
+    /// The worker settles its batch, which was handed, after these outcomes of its attempts. In the
+    /// hold none of its spans is freed or named: lost ones are before it, and others are left to
+    /// the threads that end spans, or freed once it is over.
     pub(crate) fn settle(
         &mut self,
-        batch: SettledBatch<A>,
+        batch: Batch<A>,
+        fate: Fate,
         outcomes: &Vec<Outcome, A>,
-        leaves: bool,
-        spent: Vec<SpanData<A>, A>,
-    ) -> Vec<SpanData<A>, A>
+        spent: &mut Vec<SpanData<A>, A>,
+    )
         requires worker { self.old ≡ worker (origin_in self.old) (worker_in self.old) }
-        requires out { IsSettledBatchOf self.old batch }
-        ensures { self.new ≡ on_worker (left_if leaves) (on_worker
-            (after_settle (outcomes_view outcomes.now.items) batch.fate) self.old) }
+        requires out { IsSentBatchOf self.old batch }
+        ensures { self.new ≡ on_worker
+            (after_settle (outcomes_view outcomes.now.items) (fate_view fate)) self.old }
     {
+        let none = Vec::new(*spent.allocator());
+        let mut sent = mem::replace(spent, none);
+        let batch = settled_of(batch, fate, &mut sent);
         let mut hold = self.lock.shared.lock(&self.rt);
-        let after = hold.settle(&mut self.account, batch, outcomes, leaves, spent);
-        self.lock.waits.end(hold, after)
+        let after = hold.settle(&mut self.account, batch, outcomes, sent);
+        *spent = self.lock.waits.end(hold, after);
+        spent.clear();
     }
 
     /// The worker, which has no batch out, leaves.
@@ -273,11 +281,29 @@ impl<J: Naming, R: Wait + Drop, A: Allocator + Copy> Holder<J, R, A> {
     {
         let Holder { lock, account, rt } = self;
         let Holder {
-            lock: _,
             account: of_worker,
-            rt: _,
+            ..
         } = of_worker;
         let mut hold = lock.shared.lock(&rt);
         hold.close(account, of_worker, passes, spare)
+    }
+}
+
+/// A batch with its fate: where its spans are lost, they are named, and all else of them is freed.
+/// Where they aren't, they are moved to `spent`, or freed where that has no room. It takes no
+/// memory.
+fn settled_of<A: Allocator>(
+    mut batch: Batch<A>,
+    fate: Fate,
+    spent: &mut Vec<SpanData<A>, A>,
+) -> SettledBatch<A>
+    ensures { result ≡ settled_batch (fate_view fate) batch }
+{
+    match loss_reason(fate) {
+        Some(_) => batch.into_settled(fate),
+        None => {
+            batch.clear_into(spent);
+            batch.into_settled(fate)
+        }
     }
 }

@@ -3,23 +3,23 @@ ghost use Rattle.std.specs.Prelude.{◌≡◌, ◌<◌, ◌≤◌, ◌↔◌, �
 ghost use Rattle.std.specs.Prelude.{OnOk, vec_len, None};
 ghost use Rattle.std.specs.List.{AllByRecursion};
 ghost use Rattle.model_processor.specs.Passes.{new_account};
-ghost use Rattle.model_processor.specs.Worker.{new_worker};
 ghost use Rattle.model_processor.specs.AnyAccounts.{pass};
 ghost use Rattle.span_ring.specs.SpanRing.{IsRingSize};
-ghost use Rattle.span_ring.specs.declared.ring.TheConstants.{MAX_QUEUE};
 ghost use Rattle.model_desk.specs.Desks.{new_desk};
 ghost use Rattle.batch_desk.specs.Views.{config_view};
 ghost use Rattle.batch_processor.specs.Views.{IsPassCount, setup_view};
+ghost use Rattle.batch_processor.specs.New.{AreNew, IsBatchAboveQueue, IsTooLarge, IsZeroSize};
+ghost use Rattle.batch_processor.specs.New.{new_work, origin_with};
 ghost use Rattle.processor_account.specs.declared.passes.TheConstants.{MAX_PASSES};
 ghost use Rattle.model_processor.specs.WorkerClauses.{IsAccounted, WorksUntilItLeaves, abandon};
 
-use crate::account::{BatchBlank, BatchState, Begins, WorkerBegins};
+use crate::account::{Account, BatchBlank, BatchState, Begins, WorkerBegins};
 use crate::config::{BatchConfig, Setup};
 use crate::fault::NewFault;
 use crate::lock::{Holder, Lock};
 use crate::pass::Pass;
 use crate::worker::WorkerPass;
-use account_book::{Account, Naming};
+use account_book::Naming;
 use batch_desk::{Desk, DeskConfig};
 use processor_account::MAX_PASSES;
 use std::alloc::{AllocError, Allocator, Global};
@@ -111,11 +111,7 @@ impl<J: Naming, R: Wait + Drop, A: Allocator + Copy> BatchProcessor<J, R, A> {
                 worker,
             });
         }
-        let BatchProcessor {
-            holder,
-            setup: _,
-            spare,
-        } = self;
+        let BatchProcessor { holder, spare, .. } = self;
         let desk = holder.close(worker.abandon(), passes, spare);
         Ok(Accounts { desk })
     }
@@ -157,28 +153,20 @@ impl<J: Naming, R: Wait + Copy, A: Allocator + Copy> BatchProcessor<J, R, A> {
         now: u64,
     ) -> Result<Parts<J, R, A>, NewFault>
         requires { blank ≡ J.name }
-        ensures processor { IfOk result (λ parts.
-            parts.processor ≡ setup_view (record { passes = passes; config = config })) }
+        ensures processor { IfOk result (λ parts. parts.processor ≡ origin_with config passes) }
         ensures count { IfOk result (λ parts. vec_len parts.passes ≡ passes) }
-        ensures passes { IfOk result
-            (λ parts. AllByRecursion (λ a. a ≡ new_account) parts.passes.items) }
-        ensures worker { IfOk result (λ parts. parts.worker ≡ record {
-          origin = setup_view (record { passes = passes; config = config });
-          account = new_worker;
-          encoded = None;
-        }) }
+        ensures passes { IfOk result (λ parts. AreNew parts.passes.items) }
+        ensures worker { IfOk result (λ parts. parts.worker ≡ new_work (origin_with config passes)) }
 
         // The first fault that holds is the answer.
         ensures bad_passes { IsErrOf result NewFault.BadPasses
             ↔ ((passes ≡ 0) ⊎ (MAX_PASSES < passes)) }
         ensures zero_size { IsErrOf result NewFault.ZeroSize
-            ↔ (IsPassCount passes × ((config.desk.queue ≡ 0) ⊎ (config.desk.batch ≡ 0))) }
+            ↔ (IsPassCount passes × IsZeroSize config.desk) }
         ensures batch_above_queue { IsErrOf result NewFault.BatchAboveQueue
-            ↔ (IsPassCount passes
-            × ((0 < config.desk.queue) × (config.desk.queue < config.desk.batch))) }
+            ↔ (IsPassCount passes × IsBatchAboveQueue config.desk) }
         ensures too_large { IsErrOf result NewFault.TooLarge
-            ↔ (IsPassCount passes × ((0 < config.desk.batch)
-            × (config.desk.batch ≤ config.desk.queue) × (MAX_QUEUE < config.desk.queue))) }
+            ↔ (IsPassCount passes × IsTooLarge config.desk) }
         ensures out_of_memory { IsErrOf result NewFault.OutOfMemory
             → IsPassCount passes × IsRingSize config.desk.queue config.desk.batch }
     {
@@ -203,26 +191,17 @@ impl<J: Naming, R: Wait + Copy, A: Allocator + Copy> BatchProcessor<J, R, A> {
         now: u64,
     ) -> Result<Parts<J, R, A>, NewFault>
         requires { blank ≡ J.name }
-        ensures processor { IfOk result (λ parts.
-            parts.processor ≡ setup_view (record { passes = passes; config = config })) }
+        ensures processor { IfOk result (λ parts. parts.processor ≡ origin_with config passes) }
         ensures count { IfOk result (λ parts. vec_len parts.passes ≡ passes) }
-        ensures passes { IfOk result
-            (λ parts. AllByRecursion (λ a. a ≡ new_account) parts.passes.items) }
-        ensures worker { IfOk result (λ parts. parts.worker ≡ record {
-          origin = setup_view (record { passes = passes; config = config });
-          account = new_worker;
-          encoded = None;
-        }) }
+        ensures passes { IfOk result (λ parts. AreNew parts.passes.items) }
+        ensures worker { IfOk result (λ parts. parts.worker ≡ new_work (origin_with config passes)) }
 
         // The first fault that holds is the answer.
         ensures any_passes { IsErrOf result NewFault.BadPasses → ⊥ }
-        ensures zero_size { IsErrOf result NewFault.ZeroSize
-            ↔ ((config.desk.queue ≡ 0) ⊎ (config.desk.batch ≡ 0)) }
+        ensures zero_size { IsErrOf result NewFault.ZeroSize ↔ IsZeroSize config.desk }
         ensures batch_above_queue { IsErrOf result NewFault.BatchAboveQueue
-            ↔ ((0 < config.desk.queue) × (config.desk.queue < config.desk.batch)) }
-        ensures too_large { IsErrOf result NewFault.TooLarge
-            ↔ ((0 < config.desk.batch)
-            × (config.desk.batch ≤ config.desk.queue) × (MAX_QUEUE < config.desk.queue)) }
+            ↔ IsBatchAboveQueue config.desk }
+        ensures too_large { IsErrOf result NewFault.TooLarge ↔ IsTooLarge config.desk }
         ensures out_of_memory { IsErrOf result NewFault.OutOfMemory
             → IsRingSize config.desk.queue config.desk.batch }
     {
@@ -245,13 +224,8 @@ impl<J: Naming, R: Wait + Copy, A: Allocator + Copy> BatchProcessor<J, R, A> {
         requires size { 1 ≤ setup.config.desk.batch }
         ensures processor { IfOk result (λ parts. parts.processor ≡ setup_view setup) }
         ensures count { IfOk result (λ parts. vec_len parts.passes ≡ setup.passes) }
-        ensures passes { IfOk result
-            (λ parts. AllByRecursion (λ a. a ≡ new_account) parts.passes.items) }
-        ensures worker { IfOk result (λ parts. parts.worker ≡ record {
-          origin = setup_view setup;
-          account = new_worker;
-          encoded = None;
-        }) }
+        ensures passes { IfOk result (λ parts. AreNew parts.passes.items) }
+        ensures worker { IfOk result (λ parts. parts.worker ≡ new_work (setup_view setup)) }
     {
         let spare = spare_desk(alloc)?;
         let spent = Vec::with_capacity(alloc, setup.config.desk.batch)?;
@@ -263,7 +237,7 @@ impl<J: Naming, R: Wait + Copy, A: Allocator + Copy> BatchProcessor<J, R, A> {
         let accounts = book.open_all::<BatchState, A>(alloc, setup.passes)?;
         let lock = Arc::new(alloc, Lock::new(desk, spent, book, setup))?;
         let passes = give_passes(alloc, rt, &lock, accounts)?;
-        let worker = WorkerPass::new(alloc, Holder::new(&lock, of_worker, rt)?, &setup)?;
+        let worker = WorkerPass::new(alloc, Holder::new(&lock, of_worker, rt)?, setup)?;
         let holder = Holder::new(&lock, account, rt)?;
         let processor = BatchProcessor {
             holder,
@@ -293,12 +267,11 @@ fn give_passes<J: Naming, R: Copy, A: Allocator>(
     alloc: A,
     rt: R,
     lock: &Arc<Lock<J, A>, A>,
-    accounts: Vec<Account<J, BatchState>, A>,
+    accounts: Vec<Account<J>, A>,
 ) -> Result<Vec<Pass<J, R, A>, A>, AllocError>
     requires { AllByRecursion (λ h. h ≡ pass new_account) accounts.items }
     ensures count { IfOk result (λ passes. vec_len passes ≡ vec_len accounts) }
-    ensures new { IfOk result
-        (λ passes. AllByRecursion (λ a. a ≡ new_account) passes.items) }
+    ensures new { IfOk result (λ passes. AreNew passes.items) }
 {
     let mut passes = Vec::with_capacity(alloc, accounts.len())?;
     for account in accounts {

@@ -1,21 +1,15 @@
 //! The steps of a worker's work: a batch is taken, encoded once, handed to an exporter, judged by
 //! its outcome, sent again or settled.
-ghost use Rattle.std.specs.Prelude.{◌≡◌, ◌≤◌, [], IsTrue, Some, None, true, false};
-ghost use Rattle.retry_core.specs.Retries.{fate_view};
+ghost use Rattle.std.specs.Prelude.{◌≡◌, [], IsTrue, Some, None, false};
 ghost use Rattle.model_processor.specs.WorkerClauses.{abandon};
-ghost use Rattle.otlp_span.specs.Dropped.{reason_view};
-ghost use Rattle.model_span.specs.Dropped.{can_drop_batch};
-ghost use Rattle.model_processor.specs.AnyAccounts.{after_drained, after_drop, after_left};
-ghost use Rattle.model_processor.specs.AnyAccounts.{after_settle, left_if, worker};
-ghost use Rattle.batch_desk.specs.Batch.{settled_batch};
-ghost use Rattle.batch_processor.specs.Holds.{IsBatchOf, IsSentBatchOf};
+ghost use Rattle.model_processor.specs.AnyAccounts.{after_drained, after_left, worker};
 ghost use Rattle.batch_processor.specs.Working.{IsReady, IsWorkingWith, StepsAside, TakesStep};
 ghost use Rattle.batch_processor.specs.Working.{begun, hand_at, in_hand, is_pending_in, work_in};
 
 use crate::config::Setup;
 use crate::lock::Holder;
 use account_book::Naming;
-use batch_desk::{Batch, SettledBatch, loss_reason};
+use batch_desk::Batch;
 use batch_sending::{Attempted, Judged, Sending};
 use otlp_span::{Reason, SpanData};
 use rand_core::Rng;
@@ -24,7 +18,7 @@ use span_exporter::Exporter;
 use std::alloc::Allocator;
 use std::marker::Model;
 use std::sync::Wait;
-use std::{mem, time};
+use std::time;
 use trace_api::Clock;
 
 /// The batch in hand.
@@ -42,19 +36,10 @@ impl<A: Allocator> Model for InHand<A> {
     ghost view = { λ h. record { batch = h.batch; sending = h.sending } };
 }
 
-/// A batch in hand that is to be encoded.
-fn to_encode<A: Allocator>(batch: Batch<A>) -> InHand<A>
-    ensures { Some result ≡ hand_at batch None }
+/// A batch in hand, with how far it is on its way.
+fn in_hand<A: Allocator>(batch: Batch<A>, sending: Option<Sending<A>>) -> InHand<A>
+    ensures { Some result ≡ hand_at batch sending }
 {
-    let sending = None;
-    InHand { batch, sending }
-}
-
-/// A batch in hand that is on its way to the exporter.
-fn on_its_way<A: Allocator>(batch: Batch<A>, sending: Sending<A>) -> InHand<A>
-    ensures { Some result ≡ hand_at batch (Some sending) }
-{
-    let sending = Some(sending);
     InHand { batch, sending }
 }
 
@@ -94,10 +79,8 @@ impl<J: Naming, R: Wait + time::Clock + Drop, A: Allocator + Copy> BatchSender<J
         requires { IsWorkingWith self.old None }
         ensures { StepsAside self.old None self.new result }
     {
-        let Some(batch) = self.holder.take(now) else {
-            return None;
-        };
-        Some(to_encode(batch))
+        let batch = self.holder.take(now)?;
+        Some(in_hand(batch, None))
     }
 
     /// Whether all is drained; if not, and no batch is due at this moment, it waits for a short
@@ -132,13 +115,13 @@ impl<J: Naming, R: Wait + time::Clock + Drop, A: Allocator + Copy> BatchSender<J
         match sending.attempt(exporter, clock.now()) {
             Attempted::Sent { outcome, .. } => {
                 self.outcomes.push_reserved(outcome);
-                Some(on_its_way(batch, sending))
+                Some(in_hand(batch, Some(sending)))
             }
             Attempted::Early => {
                 self.holder.pause();
-                Some(on_its_way(batch, sending))
+                Some(in_hand(batch, Some(sending)))
             }
-            Attempted::Unjudged => self.judge(on_its_way(batch, sending), clock, rng),
+            Attempted::Unjudged => self.judge(in_hand(batch, Some(sending)), clock, rng),
         }
     }
 
@@ -152,9 +135,9 @@ impl<J: Naming, R: Wait + time::Clock + Drop, A: Allocator + Copy> BatchSender<J
         let (retry, max_body) = (config.retry, config.max_body);
         let (number, spans) = (batch.number(), batch.spans());
         match Sending::prepare(self.alloc, number, spans, retry, max_body, exporter) {
-            Ok(sending) => Some(on_its_way(batch, sending)),
+            Ok(sending) => Some(in_hand(batch, Some(sending))),
             Err(fault) => {
-                self.drop_batch(batch, fault.reason(), false);
+                self.holder.drop_batch(batch, fault.reason());
                 None
             }
         }
@@ -184,7 +167,7 @@ impl<J: Naming, R: Wait + time::Clock + Drop, A: Allocator + Copy> BatchSender<J
     {
         let InHand { batch, sending } = hand;
         let Some(sending) = sending else {
-            return Some(to_encode(batch));
+            return Some(in_hand(batch, None));
         };
         let word = if sending.is_pending() {
             rng.next_u64()
@@ -192,10 +175,12 @@ impl<J: Naming, R: Wait + time::Clock + Drop, A: Allocator + Copy> BatchSender<J
             0
         };
         match sending.judge(clock.now(), word) {
-            Judged::Nothing(sending) => Some(on_its_way(batch, sending)),
-            Judged::Again { sending, .. } => Some(on_its_way(batch, sending)),
+            Judged::Nothing(sending) => Some(in_hand(batch, Some(sending))),
+            Judged::Again { sending, .. } => Some(in_hand(batch, Some(sending))),
             Judged::Over { fate, .. } => {
-                self.settle(batch, fate, false);
+                self.holder
+                    .settle(batch, fate, &self.outcomes, &mut self.spent);
+                self.outcomes.clear();
                 None
             }
         }
@@ -203,68 +188,34 @@ impl<J: Naming, R: Wait + time::Clock + Drop, A: Allocator + Copy> BatchSender<J
 }
 
 impl<J: Naming, R: Wait + Drop, A: Allocator + Copy> BatchSender<J, R, A> {
-    /// Settles a batch that was handed, after the outcomes of its attempts. The worker leaves by
-    /// the same hold, or it doesn't; waiting threads are woken. In the hold none of its spans is
-    /// freed or named: lost ones are before it, and others are left to the threads that end spans,
-    /// or freed once it is over.
-    fn settle(&mut self, batch: Batch<A>, fate: Fate, leaves: bool)
-        requires { IsSentBatchOf (worker self.old.origin self.old.account) batch }
-        ensures { self.new ≡ record self.old {
-          account = left_if leaves
-              (after_settle self.old.outcomes (fate_view fate) self.old.account);
-          outcomes = [];
-        } }
-    {
-        let mut spent = mem::replace(&mut self.spent, Vec::new(self.alloc));
-        let batch = settled_of(batch, fate, &mut spent);
-        self.spent = self.holder.settle(batch, &self.outcomes, leaves, spent);
-        self.spent.clear();
-        self.outcomes.clear();
-    }
-
-    /// Drops a batch that was not handed, for this reason. The worker leaves by the same hold, or
-    /// it doesn't; waiting threads are woken. Its spans are freed before the hold.
-    fn drop_batch(&mut self, batch: Batch<A>, reason: Reason, leaves: bool)
-        requires batch { IsBatchOf (worker self.old.origin self.old.account) batch }
-        requires reason { can_drop_batch (reason_view reason) ≡ true }
-        ensures { self.new ≡ record self.old {
-          account = left_if leaves (after_drop (reason_view reason) self.old.account);
-        } }
-    {
-        let batch = batch.into_named(reason);
-        self.holder.drop_batch(batch, leaves);
-    }
-
-    /// Abandons the batch in hand: it is dropped where it was not handed, and else settled. The
-    /// worker leaves by the same hold, or it doesn't.
-    pub(crate) fn abandon(&mut self, hand: InHand<A>, leaves: bool)
+    /// Abandons the batch in hand: it is dropped where it was not handed, and else settled.
+    pub(crate) fn abandon(&mut self, hand: InHand<A>)
         requires { IsWorkingWith self.old (Some hand) }
         ensures { self.new ≡ record self.old {
-          account = left_if leaves (abandon (work_in self.old (Some hand)).account);
+          account = abandon (work_in self.old (Some hand)).account;
           outcomes = [];
         } }
     {
         let InHand { batch, sending } = hand;
         let Some(sending) = sending else {
-            self.drop_batch(batch, Reason::Abandoned, leaves);
+            self.holder.drop_batch(batch, Reason::Abandoned);
             return;
         };
         if sending.is_sent() {
-            self.settle(batch, Fate::Abandoned, leaves);
+            self.holder
+                .settle(batch, Fate::Abandoned, &self.outcomes, &mut self.spent);
+            self.outcomes.clear();
             return;
         }
-        self.drop_batch(batch, Reason::Abandoned, leaves);
+        self.holder.drop_batch(batch, Reason::Abandoned);
     }
-
     /// Leaves, where no batch is in hand, and wakes waiting threads.
     pub(crate) fn leave(&mut self)
         ensures { self.new ≡ record self.old { account = after_left self.old.account } }
     {
         self.holder.leave();
     }
-}
 
-impl<J: Naming, R: Drop, A: Allocator + Copy> BatchSender<J, R, A> {
     /// The worker's place at the lock, where no batch is in hand.
     pub(crate) fn into_holder(self) -> Holder<J, R, A>
         ensures { result ≡ worker self.origin self.account }
@@ -277,24 +228,5 @@ impl<J: Naming, R: Drop, A: Allocator + Copy> BatchSender<J, R, A> {
             alloc: _,
         } = self;
         holder
-    }
-}
-
-/// A batch with its fate: where its spans are lost, they are named, and all else of them is freed.
-/// Where they aren't, they are moved to `spent`, or freed where that has no room. It takes no
-/// memory.
-fn settled_of<A: Allocator>(
-    mut batch: Batch<A>,
-    fate: Fate,
-    spent: &mut Vec<SpanData<A>, A>,
-) -> SettledBatch<A>
-    ensures { result ≡ settled_batch (fate_view fate) batch }
-{
-    match loss_reason(fate) {
-        Some(_) => batch.into_settled(fate),
-        None => {
-            batch.clear_into(spent);
-            batch.into_settled(fate)
-        }
     }
 }

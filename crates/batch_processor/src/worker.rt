@@ -6,6 +6,7 @@ ghost use Rattle.model_processor.specs.WorkerClauses.{EachLeadsOn, EndByWork, Wo
 ghost use Rattle.model_processor.specs.WorkerClauses.{abandon};
 ghost use Rattle.model_processor.specs.AnyAccounts.{after_left, worker};
 ghost use Rattle.span_exporter.specs.Handed.{Handed};
+ghost use Rattle.batch_processor.specs.New.{new_work};
 ghost use Rattle.batch_processor.specs.Views.{setup_view};
 ghost use Rattle.batch_processor.specs.Working.{GoesOn, IsPrepared};
 
@@ -55,40 +56,6 @@ impl<J: Naming, R: Wait + Drop, A: Allocator + Copy> Model for WorkerPass<J, R, 
 impl<J: Naming, R: Wait + Drop, A: Allocator + Copy> fmt::Debug for WorkerPass<J, R, A> {
     fn fmt<W: fmt::Write>(&self, f: &mut fmt::Formatter<W>) -> fmt::Result {
         f.debug_struct("WorkerPass").finish_non_exhaustive()
-    }
-}
-
-impl<J: Naming, R: Wait + Drop, A: Allocator + Copy> WorkerPass<J, R, A> {
-    /// The pass of a worker that has done nothing.
-    ///
-    /// # Errors
-    ///
-    /// `AllocError` where memory was refused.
-    pub(crate) fn new(
-        alloc: A,
-        holder: Holder<J, R, A>,
-        setup: &Setup,
-    ) -> Result<WorkerPass<J, R, A>, AllocError>
-        requires account { holder ≡ worker (setup_view setup.now) new_worker }
-        requires retry { IsRetryConfig setup.now.config.retry }
-        ensures { IfOk result (λ pass. pass
-            ≡ record { origin = setup_view setup.now; account = new_worker; encoded = None }) }
-    {
-        let outcomes = Vec::with_capacity(alloc, 5)?;
-        let spent = Vec::with_capacity(alloc, setup.config.desk.batch)?;
-        let setup = *setup;
-        let sender = BatchSender {
-            holder,
-            outcomes,
-            spent,
-            setup,
-            alloc,
-        };
-        Ok(WorkerPass {
-            sender,
-            in_hand: None,
-            left: false,
-        })
     }
 }
 
@@ -153,9 +120,7 @@ impl<J: Naming, R: Wait + time::Clock + Drop, A: Allocator + Copy> WorkerPass<J,
         keep(&mut self.in_hand, kept);
         false
     }
-}
 
-impl<J: Naming, R: Wait + time::Clock + Drop, A: Allocator + Copy> WorkerPass<J, R, A> {
     /// Judges the outcome of the last attempt of the batch in hand, where that isn't done: the
     /// batch is settled by it, or is to be sent again. Nothing is sent. It is for a caller that
     /// ends work before all is drained, so that no reply that came is left out. (profile)
@@ -185,6 +150,36 @@ fn keep<A: Allocator>(in_hand: &mut Option<InHand<A>>, left: Option<InHand<A>>)
 }
 
 impl<J: Naming, R: Wait + Drop, A: Allocator + Copy> WorkerPass<J, R, A> {
+    /// The pass of a worker that has done nothing.
+    ///
+    /// # Errors
+    ///
+    /// `AllocError` where memory was refused.
+    pub(crate) fn new(
+        alloc: A,
+        holder: Holder<J, R, A>,
+        setup: Setup,
+    ) -> Result<WorkerPass<J, R, A>, AllocError>
+        requires account { holder ≡ worker (setup_view setup) new_worker }
+        requires retry { IsRetryConfig setup.config.retry }
+        ensures { IfOk result (λ pass. pass ≡ new_work (setup_view setup)) }
+    {
+        let outcomes = Vec::with_capacity(alloc, 5)?;
+        let spent = Vec::with_capacity(alloc, setup.config.desk.batch)?;
+        let sender = BatchSender {
+            holder,
+            outcomes,
+            spent,
+            setup,
+            alloc,
+        };
+        Ok(WorkerPass {
+            sender,
+            in_hand: None,
+            left: false,
+        })
+    }
+
     /// Leaves: the batch in hand, if there is one, is dropped as `Abandoned` where it was not
     /// handed to an exporter, and else settled as `Abandoned`. Flushes that wait for what is not
     /// flushed then are answered `WorkerLeft`, and so are later ones. A second call changes
@@ -203,7 +198,8 @@ impl<J: Naming, R: Wait + Drop, A: Allocator + Copy> WorkerPass<J, R, A> {
             self.sender.leave();
             return;
         };
-        self.sender.abandon(hand, true);
+        self.sender.abandon(hand);
+        self.sender.leave();
     }
 
     /// Abandons the batch in hand, if there is one, as `leave` does.
@@ -217,13 +213,11 @@ impl<J: Naming, R: Wait + Drop, A: Allocator + Copy> WorkerPass<J, R, A> {
             in_hand,
             left: _,
         } = self;
-        match in_hand {
-            Some(hand) => {
-                sender.abandon(hand, false);
-                sender.into_holder()
-            }
-            None => sender.into_holder(),
-        }
+        let Some(hand) = in_hand else {
+            return sender.into_holder();
+        };
+        sender.abandon(hand);
+        sender.into_holder()
     }
 }
 

@@ -6,10 +6,10 @@ ghost use Rattle.model_processor.specs.AnyAccounts.{origin_in, pass, worker, wor
 ghost use Rattle.batch_processor.specs.Views.{after_answer};
 
 use super::shared::Shared;
-use crate::account::BatchState;
+use crate::account::Account;
 use crate::fault::WorkerLeft;
 use crate::pass::Flushed;
-use account_book::{Account, Naming};
+use account_book::Naming;
 use batch_desk::Mark;
 use std::alloc::Allocator;
 use std::sync::{Condvar, MutexGuard, Wait};
@@ -74,7 +74,7 @@ impl Waits {
         &self,
         rt: &R,
         mut hold: MutexGuard<'_, Shared<J, A>>,
-        account: &mut Account<J, BatchState>,
+        account: &mut Account<J>,
         mark: Mark,
     ) -> Result<Flushed, WorkerLeft>
         requires pass { account.old ≡ pass (account_in account.old) }
@@ -97,7 +97,7 @@ impl Waits {
         &self,
         rt: &R,
         mut hold: MutexGuard<'_, Shared<J, A>>,
-        account: &mut Account<J, BatchState>,
+        account: &mut Account<J>,
         now: u64,
     ) -> bool
         requires worker { account.old ≡ worker (origin_in account.old) (worker_in account.old) }

@@ -8,7 +8,7 @@ ghost use Rattle.batch_desk.specs.Desk.{is_queued};
 ghost use Rattle.model_processor.specs.Passes.{after_drain, after_pop, after_pop_lost};
 ghost use Rattle.model_processor.specs.AnyAccounts.{account_in, after_drained, after_drop};
 ghost use Rattle.model_processor.specs.AnyAccounts.{after_handed, after_left, after_settle};
-ghost use Rattle.model_processor.specs.AnyAccounts.{left_if, on_pass, on_worker, origin_in, pass};
+ghost use Rattle.model_processor.specs.AnyAccounts.{on_pass, on_worker, origin_in, pass};
 ghost use Rattle.model_processor.specs.AnyAccounts.{processor, worker, worker_in};
 ghost use Rattle.processor_account.specs.Views.{after_end, outcomes_view};
 ghost use Rattle.batch_processor.specs.Views.{after_answer, ended_of};
@@ -19,11 +19,11 @@ ghost use Rattle.model_processor.specs.Kept.{IsAccountOf};
 
 use super::Holder;
 use super::hold::{After, Wake};
-use crate::account::BatchState;
+use crate::account::{Account, BatchState};
 use crate::config::Setup;
 use crate::fault::WorkerLeft;
 use crate::pass::{Flushed, Pass};
-use account_book::{Account, Book, Naming};
+use account_book::{Book, Naming};
 use batch_desk::{Admitted, Batch, Desk, DrainedNames, Mark, NamedBatch, SettledBatch, Totals};
 use otlp_span::{Entry, Reason, SpanData, SpanRemains};
 use processor_account::{
@@ -110,7 +110,7 @@ impl<J: Naming, A: Allocator + Copy> Shared<J, A> {
     /// span that was sent, if one is left: both are to be freed once the hold is over.
     pub(super) fn admit(
         &mut self,
-        account: &mut Account<J, BatchState>,
+        account: &mut Account<J>,
         span: SpanData<A>,
     ) -> After<(Ended, Option<SpanRemains<A>>, Option<SpanData<A>>)>
         requires { account.old ≡ pass (account_in account.old) }
@@ -152,7 +152,7 @@ impl<J: Naming, A: Allocator + Copy> Shared<J, A> {
     }
 
     /// A pass asks for all spans that were accepted so far, and shuts the processor down, or not.
-    pub(super) fn ask(&mut self, account: &mut Account<J, BatchState>, closes: bool) -> After<Mark>
+    pub(super) fn ask(&mut self, account: &mut Account<J>, closes: bool) -> After<Mark>
         requires { account.old ≡ pass (account_in account.old) }
         ensures asks { Asks closes self.old result.value account.old account.new }
         ensures desk { self.new ≡ record self.old { desk = after_asked closes self.old.desk } }
@@ -176,7 +176,7 @@ impl<J: Naming, A: Allocator + Copy> Shared<J, A> {
     /// that the worker has left. None where neither is so yet.
     pub(super) fn flushed(
         &mut self,
-        account: &mut Account<J, BatchState>,
+        account: &mut Account<J>,
         mark: Mark,
     ) -> Option<Result<Flushed, WorkerLeft>>
         requires pass { account.old ≡ pass (account_in account.old) }
@@ -200,7 +200,7 @@ impl<J: Naming, A: Allocator + Copy> Shared<J, A> {
     }
 
     /// The counts of all that came so far, on a pass.
-    pub(super) fn totals(&mut self, account: &mut Account<J, BatchState>) -> Totals
+    pub(super) fn totals(&mut self, account: &mut Account<J>) -> Totals
         requires { account.old ≡ pass (account_in account.old) }
         ensures counts { IsCounted self.old result (account_in account.old) }
         ensures account { account.new ≡ account.old }
@@ -211,7 +211,7 @@ impl<J: Naming, A: Allocator + Copy> Shared<J, A> {
     }
 
     /// A pass pops an entry of the ledger.
-    pub(super) fn pop_entry(&mut self, account: &mut Account<J, BatchState>) -> Option<Entry>
+    pub(super) fn pop_entry(&mut self, account: &mut Account<J>) -> Option<Entry>
         requires { account.old ≡ pass (account_in account.old) }
         ensures account { PopsBy after_pop account.old result account.new }
         ensures desk { self.new ≡ record self.old {
@@ -224,7 +224,7 @@ impl<J: Naming, A: Allocator + Copy> Shared<J, A> {
     }
 
     /// A pass pops an entry of the ledger of lost spans.
-    pub(super) fn pop_lost(&mut self, account: &mut Account<J, BatchState>) -> Option<Entry>
+    pub(super) fn pop_lost(&mut self, account: &mut Account<J>) -> Option<Entry>
         requires { account.old ≡ pass (account_in account.old) }
         ensures account { PopsBy after_pop_lost account.old result account.new }
         ensures desk { self.new ≡ record self.old {
@@ -237,7 +237,7 @@ impl<J: Naming, A: Allocator + Copy> Shared<J, A> {
     }
 
     /// A pass drains both ledgers. However many names there are, none is looked at in the hold.
-    pub(super) fn drain_names(&mut self, account: &mut Account<J, BatchState>) -> DrainedNames<A>
+    pub(super) fn drain_names(&mut self, account: &mut Account<J>) -> DrainedNames<A>
         requires { account.old ≡ pass (account_in account.old) }
         ensures account { account.new ≡ on_pass
             (after_drain (reverse result.dropped) (reverse result.lost)) account.old }
@@ -252,11 +252,7 @@ impl<J: Naming, A: Allocator + Copy> Shared<J, A> {
     }
 
     /// The worker, which has no batch out, takes the next batch, if it is due.
-    pub(super) fn take(
-        &mut self,
-        account: &mut Account<J, BatchState>,
-        now: u64,
-    ) -> Option<Batch<A>>
+    pub(super) fn take(&mut self, account: &mut Account<J>, now: u64) -> Option<Batch<A>>
         requires worker { account.old ≡ worker (origin_in account.old) (worker_in account.old) }
         requires none_out { (worker_in account.old).out ≡ None }
         ensures account { TakesBatch account.old result account.new }
@@ -268,17 +264,14 @@ impl<J: Naming, A: Allocator + Copy> Shared<J, A> {
     }
 
     /// Whether a batch is due at this moment.
-    pub(super) fn is_due(&self, now: u64) -> bool {
+    pub(super) fn is_due(&self, now: u64) -> bool
+        ensures { result ≡ is_due self.now.desk now }
+    {
         self.desk.due(now)
     }
 
     /// The worker hands its batch to an exporter, with this body.
-    pub(super) fn handed(
-        &mut self,
-        account: &mut Account<J, BatchState>,
-        batch: &Batch<A>,
-        body: &Vec<u8, A>,
-    )
+    pub(super) fn handed(&mut self, account: &mut Account<J>, batch: &Batch<A>, body: &Vec<u8, A>)
         requires worker { account.old ≡ worker (origin_in account.old) (worker_in account.old) }
         requires out { IsBatchOf account.old batch.now }
         ensures account { account.new ≡ on_worker (after_handed body.now.items) account.old }
@@ -288,47 +281,37 @@ impl<J: Naming, A: Allocator + Copy> Shared<J, A> {
         self.desk.handed(batch.number());
     }
 
-    /// The worker drops its batch, and leaves, or it doesn't.
-    pub(super) fn drop_batch(
-        &mut self,
-        account: &mut Account<J, BatchState>,
-        batch: NamedBatch<A>,
-        leaves: bool,
-    ) -> After<()>
+    /// The worker drops its batch.
+    pub(super) fn drop_batch(&mut self, account: &mut Account<J>, batch: NamedBatch<A>) -> After<()>
         requires worker { account.old ≡ worker (origin_in account.old) (worker_in account.old) }
         requires out { IsNamedBatchOf account.old batch }
-        ensures account { account.new ≡ on_worker (left_if leaves)
-            (on_worker (after_drop batch.reason) account.old) }
+        ensures account { account.new ≡ on_worker (after_drop batch.reason) account.old }
         ensures desk { self.new ≡ record self.old {
           desk = after_names batch.reason batch.entries self.old.desk;
-          left = leaves || self.old.left;
         } }
         ensures wake { result.wake ≡ wake_of self.old self.new }
     {
         let was = self.awaited();
         self.book.record::<NamedBatch<A>, Drops>(account, &batch);
         self.desk.drop_named(batch);
-        self.leave_if(account, leaves);
         self.after(was, ())
     }
 
-    /// The worker settles its batch, and leaves, or it doesn't. Spans that were sent are left to the
-    /// threads that end others; other spans are handed out, to be freed once the hold is over.
+    /// The worker settles its batch. Spans that were sent are left to the threads that end others;
+    /// other spans are handed out, to be freed once the hold is over.
     pub(super) fn settle(
         &mut self,
-        account: &mut Account<J, BatchState>,
+        account: &mut Account<J>,
         batch: SettledBatch<A>,
         outcomes: &Vec<Outcome, A>,
-        leaves: bool,
         mut spent: Vec<SpanData<A>, A>,
     ) -> After<Vec<SpanData<A>, A>>
         requires worker { account.old ≡ worker (origin_in account.old) (worker_in account.old) }
         requires out { IsSettledBatchOf account.old batch }
-        ensures account { account.new ≡ on_worker (left_if leaves) (on_worker
-            (after_settle (outcomes_view outcomes.now.items) batch.fate) account.old) }
+        ensures account { account.new ≡ on_worker
+            (after_settle (outcomes_view outcomes.now.items) batch.fate) account.old }
         ensures desk { self.new ≡ record self.old {
           desk = after_loss batch.fate batch.entries self.old.desk;
-          left = leaves || self.old.left;
           spent = self.new.spent;
         } }
         ensures spent { IsPermutation
@@ -336,33 +319,32 @@ impl<J: Naming, A: Allocator + Copy> Shared<J, A> {
         ensures wake { result.wake ≡ wake_of self.old self.new }
     {
         let was = self.awaited();
-        let seen = Snapshot::of(outcomes);
         let settled = Settled {
-            outcomes: seen,
+            outcomes: Snapshot::of(outcomes),
             fate: batch.fate(),
         };
         self.book.record::<Settled<A>, Settles>(account, &settled);
         self.desk.settle_named(batch);
-        self.leave_if(account, leaves);
         self.leave_spent(&mut spent);
         self.after(was, spent)
     }
 
     /// The worker, which has no batch out, leaves.
-    pub(super) fn leave(&mut self, account: &mut Account<J, BatchState>) -> After<()>
+    pub(super) fn leave(&mut self, account: &mut Account<J>) -> After<()>
         requires { account.old ≡ worker (origin_in account.old) (worker_in account.old) }
         ensures account { account.new ≡ on_worker after_left account.old }
         ensures left { self.new ≡ record self.old { left = true } }
         ensures wake { result.wake ≡ wake_of self.old self.new }
     {
         let was = self.awaited();
-        self.leave_if(account, true);
+        self.book.record::<(), Leaves>(account, &());
+        self.left = true;
         self.after(was, ())
     }
 
     /// Whether the processor is shut down, and no span waits: for the worker, which has no batch
     /// out.
-    pub(super) fn drained(&mut self, account: &mut Account<J, BatchState>) -> bool
+    pub(super) fn drained(&mut self, account: &mut Account<J>) -> bool
         requires worker { account.old ≡ worker (origin_in account.old) (worker_in account.old) }
         ensures yes { IsTrue result → account.new ≡ on_worker after_drained account.old }
         ensures no { result ≡ false → account.new ≡ account.old }
@@ -375,25 +357,12 @@ impl<J: Naming, A: Allocator + Copy> Shared<J, A> {
         true
     }
 
-    /// The worker leaves by this hold, or it doesn't.
-    fn leave_if(&mut self, account: &mut Account<J, BatchState>, leaves: bool)
-        requires { account.old ≡ worker (origin_in account.old) (worker_in account.old) }
-        ensures account { account.new ≡ on_worker (left_if leaves) account.old }
-        ensures left { self.new ≡ record self.old { left = leaves || self.old.left } }
-    {
-        if !leaves {
-            return;
-        }
-        self.book.record::<(), Leaves>(account, &());
-        self.left = true;
-    }
-
     /// Takes the desk out, once the processor, the worker and all passes are back, and leaves the
     /// spare one.
     pub(super) fn close<R: Drop>(
         &mut self,
-        mut account: Account<J, BatchState>,
-        of_worker: Account<J, BatchState>,
+        mut account: Account<J>,
+        of_worker: Account<J>,
         passes: Vec<Pass<J, R, A>, A>,
         spare: Desk<A>,
     ) -> Desk<A>
@@ -412,11 +381,7 @@ impl<J: Naming, A: Allocator + Copy> Shared<J, A> {
         self.book.close(of_worker);
         for pass in passes {
             let Pass { holder } = pass;
-            let Holder {
-                lock: _,
-                account,
-                rt: _,
-            } = holder;
+            let Holder { account, .. } = holder;
             self.book.close(account);
         }
         desk

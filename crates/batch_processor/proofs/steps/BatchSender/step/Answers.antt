@@ -31,7 +31,7 @@ returns-in-Sent g c =
     ap outcomes_view c.push_reserved.ensures.items
     ∙ map_push outcome_view c.self.inside.outcomes.items c.in-Sent.outcome in
     subst (λ (h : Option Hand). TakesStep told told' room' s (Some c.args.hand) new h)
-    (sym c.on_its_way.ensures)
+    (sym c.in_hand.ensures)
     (subst (λ (h : Option Hand).
     TakesStep told told' room' s h new (hand_at batch (Some sending')))
     (sym was)
@@ -55,7 +55,7 @@ returns-in-Early g c =
     let was : Some c.args.hand ≡ hand_at batch (Some sending) = search rules in
     let attempted = c.in-Early.ensures.attempts in
     subst (λ (h : Option Hand). TakesStep told told' room' s (Some c.args.hand) new h)
-    (sym c.on_its_way-in-Early.ensures)
+    (sym c.in_hand-in-Early.ensures)
     (subst (λ (h : Option Hand).
     TakesStep told told' room' s h new (hand_at batch (Some sending')))
     (sym was)
@@ -82,4 +82,4 @@ returns-in-Unjudged g c =
     sending' mid new c.judge.result (ap is_sent_at attempted.stage)
     attempted.nothing_is_sent attempted.sending c.in-Unjudged.ensures.room c.begin.ensures
     (λ _. subst (λ (h : Option Hand). StepsAside mid h new c.judge.result)
-    c.on_its_way-in-Unjudged.ensures c.judge.ensures.step))
+    c.in_hand-in-Unjudged.ensures c.judge.ensures.step))

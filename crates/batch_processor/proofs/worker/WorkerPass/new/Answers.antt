@@ -11,7 +11,7 @@ use Rattle.batch_processor.proofs.worker.WorkerPass.new.Goals as goal
 
 pub invariant_of-result : goal.invariant_of-result
 invariant_of-result g c =
-    let origin = setup_view c.args.setup.now in
+    let origin = setup_view c.args.setup in
     let os = outcomes_view c.in_ok-outcomes.outcomes.items in
     let none : os ≡ [] = ap outcomes_view c.in_ok-outcomes.ensures.items in
     subst (λ (w : WorkerAccount). IsPassWith false (state_of origin w os) None)

@@ -14,7 +14,7 @@ pub invariant_of-self : goal.invariant_of-self
 invariant_of-self g c =
     let desk = c.self.inside.desk in
     let after = c.settle_named.new.self in
-    let outcomes = outcomes_view c.of-seen.result.value.items in
+    let outcomes = outcomes_view c.of.result.value.items in
     let there =
     contains_replaced c.self.inside.book c.args.account.now c.record.new.account c.record.new.self
     c.record.ensures.book in

@@ -3,7 +3,7 @@ use Rattle.model_processor.proofs.AccountState.{kept_worker}
 use Rattle.batch_processor.specs.Views.{setup_view}
 use Rattle.model_processor.specs.AnyAccounts.{after_left, worker_in}
 use Rattle.model_processor.proofs.Workers.{left_agrees}
-use Rattle.batch_processor.proofs.lock.shared.Shared.leave_if.Goals as goal
+use Rattle.batch_processor.proofs.lock.shared.Shared.leave.Goals as goal
 
 pub invariant_of-self : goal.invariant_of-self
 invariant_of-self g c =

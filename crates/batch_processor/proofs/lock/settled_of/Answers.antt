@@ -5,7 +5,7 @@ use Rattle.otlp_span.specs.Dropped.{reason_view}
 use Rattle.retry_core.specs.Retries.{fate_view}
 use Rattle.batch_desk.specs.Batch.{settled_batch}
 use Rattle.batch_processor.proofs.Holds.{none-lost}
-use Rattle.batch_processor.proofs.steps.settled_of.Goals as goal
+use Rattle.batch_processor.proofs.lock.settled_of.Goals as goal
 
 pub returns-in-None : goal.returns-in-None
 returns-in-None g c =
