@@ -119,5 +119,7 @@ module _ (gives : List ℕ → Option (List ℕ) → Type 0) where
     | given value ↦ value
     | not_yet unset others ↦
         absurd (true≢false (sym (are_all variable)
-        ∙ ap (list_any (is_named (name_of variable))) (sym (ap (λ n. take n ALL) past ∙ take-length ALL)) ∙ others))
+        ∙ ap (list_any (is_named (name_of variable)))
+        (sym (ap (λ n. take n ALL) past ∙ take-length ALL))
+        ∙ others))
   ]
