@@ -4,7 +4,6 @@ use super::far_side::{Does, FarSide};
 use super::requests::long_path;
 use super::spans::{lines_of, moments_of};
 use super::steps::Steps;
-use batch_processor::ManualClock;
 use otlp_http::{Reply, Target};
 use otlp_ids::{SpanContext, SpanId, TraceFlags, TraceId};
 use otlp_sampler::{AlwaysOff, AlwaysOn, Sampler};
@@ -15,7 +14,7 @@ use std::fmt::Write;
 use std::str;
 use std::sync::Arc;
 use std::test::Fail;
-use trace_api::{BodyPass, Clock, Provider, WordsRng};
+use trace_api::{BodyPass, Clock, ManualClock, Provider, WordsRng};
 use traced_http::KnownMethods;
 use traced_http::client::{Client, ClientParts, ClientRequest, SendFault};
 

@@ -2,7 +2,6 @@
 use super::equal::assert_equal;
 use super::kept_side::{Line, Lines};
 use super::spans::lines_of;
-use batch_processor::ManualClock;
 use otlp_http::Target;
 use otlp_sampler::AlwaysOn;
 use otlp_span::{Resource, Scope, SpanLimits};
@@ -10,7 +9,7 @@ use std::cell::RefCell;
 use std::fmt::Write;
 use std::sync::Arc;
 use std::test::Fail;
-use trace_api::{BodyPass, Provider, WordsRng};
+use trace_api::{BodyPass, ManualClock, Provider, WordsRng};
 use traced_http::client::{Client, ClientParts, ClientRequest};
 
 /// Words of traces and of spans.

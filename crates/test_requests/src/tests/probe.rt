@@ -1,6 +1,5 @@
 //! A service that the tests ask, and its results.
 use super::spans::{lines_of, moments_of};
-use batch_processor::ManualClock;
 use bytes::{BufMut, Bytes};
 use http::{HeaderName, HeaderValue, Request, StatusCode};
 use http_server::{Config, Connection, Response, Service, serve};
@@ -10,7 +9,7 @@ use std::alloc::{AllocError, Global};
 use std::hash::RandomState;
 use std::sync::Arc;
 use std::test::Fail;
-use trace_api::{BodyPass, Clock, EndPass, Provider, Tracer, WordsRng};
+use trace_api::{BodyPass, Clock, EndPass, ManualClock, Provider, Tracer, WordsRng};
 use traced_http::KnownMethods;
 use traced_http::server::{Handler, Origin, RequestSpan, ServerName, TracedService, Tracing};
 

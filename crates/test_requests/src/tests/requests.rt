@@ -2,9 +2,9 @@
 use super::equal::assert_equal;
 use super::probe::{answer, answer_by};
 use super::steps::Steps;
-use batch_processor::ManualClock;
 use std::alloc::Global;
 use std::test::Fail;
+use trace_api::ManualClock;
 
 /// Words of a trace and of spans.
 const WORDS: [u64; 6] = [1, 2, 3, 4, 5, 6];

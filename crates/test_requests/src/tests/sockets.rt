@@ -1,6 +1,5 @@
 //! Requests of a client over the system's sockets, on loopback.
 use super::equal::assert_equal;
-use batch_processor::ManualClock;
 use http_exporter::TcpDial;
 use otlp_http::Target;
 use otlp_sampler::AlwaysOn;
@@ -10,7 +9,7 @@ use std::net::{OpenListener, TcpListener, TcpStream};
 use std::sync::Arc;
 use std::test::Fail;
 use std::thread;
-use trace_api::{BodyPass, Provider, WordsRng};
+use trace_api::{BodyPass, ManualClock, Provider, WordsRng};
 use traced_http::client::{Client, ClientParts};
 
 /// The answer to each request, after which the connection is kept.
