@@ -14,6 +14,7 @@ use Rattle.http_connection.specs.declared.reply.format.Format.TheVariants as for
 abbrev pub code_of : Denial → ℕ
 code_of denials.BadRequest = 400
 code_of denials.BadBody = 400
+code_of denials.BadCoding = 400
 code_of denials.Host = 403
 code_of denials.NoPath = 404
 code_of denials.TracesOnly = 404
@@ -34,6 +35,8 @@ abbrev pub message_of : Denial → List ℕ
 message_of denials.BadRequest = codes "the request can't be read as HTTP/1.1"
 message_of denials.BadBody =
     codes "the body can't be read as an ExportTraceServiceRequest of protobuf"
+message_of denials.BadCoding =
+    codes "the body can't be read as a gzip file, as Content-Encoding says"
 message_of denials.Host =
     codes "this host isn't one of trace-view's: start trace-view with --host NAME"
 message_of denials.NoPath = codes "no such path: post traces to /v1/traces"
@@ -47,7 +50,7 @@ message_of denials.TracesTooLarge =
     codes "more than is kept: export smaller batches, or raise --keep-spans or --keep-mb"
 message_of denials.UriTooLong = codes "the target of the request is too long"
 message_of denials.MediaType =
-    codes "set the exporter's protocol to http/protobuf and its compression to none"
+    codes "set the exporter's protocol to http/protobuf, its compression to gzip or none"
 message_of denials.FieldsTooLarge = codes "the fields of the request are too large"
 message_of denials.UnknownCoding = codes "a transfer coding other than chunked isn't known"
 message_of denials.OutOfMemory = codes "out of memory: try again in a second"

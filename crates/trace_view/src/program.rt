@@ -100,6 +100,11 @@ where
 /// What keeps the spans.
 type Store = TraceStore<Arc<ViewSpan>, TraceDigest, RandomState, Global>;
 
+/// How many bytes a body may have, and what it means.
+fn max_body_of(args: &ViewArgs) -> usize {
+    usize::try_from(args.max_body).unwrap_or(usize::MAX)
+}
+
 /// The service, which listens at this address, and has kept nothing.
 fn service_of<R, P>(
     rt: &R,
@@ -119,7 +124,7 @@ where
         return Err(Failure::OutOfMemory);
     };
     match TraceStore::new(alloc, hasher, limits_of(args)) {
-        Ok(store) => Ok(ViewService::new(alloc, store, pages, hosts)),
+        Ok(store) => Ok(ViewService::new(alloc, store, pages, hosts, max_body_of(args))),
         Err(_) => Err(Failure::OutOfMemory),
     }
 }
@@ -180,7 +185,7 @@ fn settings_of(args: &ViewArgs) -> Settings
             close_ms: CLOSE_MS,
         },
         limits: Limits {
-            max_body: usize::try_from(args.max_body).unwrap_or(usize::MAX),
+            max_body: max_body_of(args),
             ..Limits::default()
         },
         pending: args.pending_mb.saturating_mul(MIB),

@@ -1,3 +1,4 @@
+pub mod Contents
 pub mod Keepers
 pub mod Receives
 pub mod Routes

@@ -32,16 +32,21 @@ module _ {K P : Type 0} where
   abbrev pub hosts_of : ViewService K P → List (List ℕ)
   hosts_of service = service.hosts
 
+  -- how many bytes the content of a request may have
+  abbrev pub max_body_of : ViewService K P → ℕ
+  max_body_of service = service.max_body
+
   -- what it has counted
   abbrev pub tally_of : ViewService K P → Tally
   tally_of service = service.tallies
 
 -- A service has given one more answer, with this status, which it counted. Under the same hosts it
--- shows the same pages.
+-- shows the same pages, and takes contents of the same size.
 pub record HasAnswered {K P : Type 0} (old new : ViewService K P) (status : ℕ) : Type 0 where
   pub counted : CountsAnswer (tally_of old) (tally_of new) status
   pub hosts : hosts_of new ≡ hosts_of old
   pub pages : pages_of new ≡ pages_of old
+  pub max_body : max_body_of new ≡ max_body_of old
 
 -- Why a request is refused by its head, where this many bytes may still be pending: it is for
 -- another host, or its body, if it says how long that is, is longer; or nothing more may be
@@ -69,7 +74,8 @@ module _ {A K P R S : Type 0} (keeps : Keeping A K) (lacks_room : Lacking A K)
   pub data Answers (old : ViewService K P) (request : HttpRequest (List ℕ)) (room : ℕ)
       (response : Response) (rest : Option R) (new : K) : Type 0 where
     received : bytes_eq (uri_path (head_of request).uri) (codes "/v1/traces") ≡ true
-        → AnswersExport keeps lacks_room gives_up (keeper_of old) request room response new
+        → AnswersExport keeps lacks_room gives_up (keeper_of old) request (max_body_of old) room
+        response new
         → rest ≡ None → Answers old request room response rest new
     traces_only : bytes_eq (uri_path (head_of request).uri) (codes "/v1/traces") ≡ false
         → is_export_path (uri_path (head_of request).uri) ≡ true

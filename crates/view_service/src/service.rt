@@ -9,7 +9,7 @@ ghost use Rattle.http_connection.specs.Denials.{IsDenial};
 ghost use Rattle.http_connection.specs.Requests.{denial_format, head_in};
 ghost use Rattle.view_service.specs.Serves as spec;
 ghost use Rattle.view_service.specs.Serves.{Answers, HasAnswered, hosts_of, keeper_of, pages_of};
-ghost use Rattle.view_service.specs.Serves.{tally_of};
+ghost use Rattle.view_service.specs.Serves.{max_body_of, tally_of};
 
 use crate::keeper::TraceKeeper;
 use crate::pages::Pages;
@@ -39,16 +39,25 @@ pub struct ViewService<K, P> {
     keeper: K,
     pages: P,
     hosts: Hosts,
+    // How many bytes the content of a request may have.
+    max_body: usize,
     tallies: Tallies,
 }
 
 impl<K, P> ViewService<K, P> {
-    /// A service over this keeper, which is asked under these hosts. It takes no memory, and has
-    /// counted nothing.
-    pub fn new(alloc: Global, keeper: K, pages: P, hosts: Hosts) -> ViewService<K, P>
+    /// A service over this keeper, which is asked under these hosts, and takes bodies that mean at
+    /// most this many bytes. It takes no memory, and has counted nothing.
+    pub fn new(
+        alloc: Global,
+        keeper: K,
+        pages: P,
+        hosts: Hosts,
+        max_body: usize,
+    ) -> ViewService<K, P>
         ensures keeper { keeper_of result ≡ keeper }
         ensures pages { pages_of result ≡ pages }
         ensures hosts { hosts_of result ≡ hosts }
+        ensures max_body { max_body_of result ≡ max_body }
         ensures tallies { tally_of result
             ≡ record { connections = 0; answers = replicate 900 0 } }
     {
@@ -57,6 +66,7 @@ impl<K, P> ViewService<K, P> {
             keeper,
             pages,
             hosts,
+            max_body,
             tallies: Tallies::new(),
         }
     }
@@ -170,12 +180,14 @@ where
             P.draws P.Page.writes self.old request.now room response.new rest (keeper_of self.new)) }
         ensures hosts { hosts_of self.new ≡ hosts_of self.old }
         ensures pages { pages_of self.new ≡ pages_of self.old }
+        ensures max_body { max_body_of self.new ≡ max_body_of self.old }
         ensures tallies { tally_of self.new ≡ tally_of self.old }
         ensures refused { OnErr result (self.new ≡ self.old) }
     {
         let path = path_of(request);
         if path == "/v1/traces" {
-            receive(self.alloc, &mut self.keeper, request, room, response)?;
+            let keeper = &mut self.keeper;
+            receive(self.alloc, keeper, request, self.max_body, room, response)?;
             return Ok(None);
         }
         if is_export_path(path) {

@@ -19,6 +19,8 @@ pub enum Denial {
     BadRequest,
     /// 400: its body can't be read.
     BadBody,
+    /// 400: its body isn't the gzip file that it is said to be.
+    BadCoding,
     /// 403: it is for a host that isn't one of the service's.
     Host,
     /// 404: nothing is at its path.
@@ -29,13 +31,13 @@ pub enum Denial {
     ExportMethod,
     /// 405: its path is that of a page, and it has a method that pages don't have.
     PageMethod,
-    /// 413: its body is larger than the service takes.
+    /// 413: its body, or what that means as a gzip file, is larger than the service takes.
     BodyTooLarge,
     /// 413: with its spans, their traces would be larger than all that is kept.
     TracesTooLarge,
     /// 414: its target is too long.
     UriTooLong,
-    /// 415: its body is of another type, or was encoded.
+    /// 415: its body is of another type, or is encoded otherwise than by gzip.
     MediaType,
     /// 431: the fields of its head are too many, or too large.
     FieldsTooLarge,
@@ -55,7 +57,7 @@ impl Denial {
         ensures { result ≡ spec.code_of self }
     {
         match self {
-            Denial::BadRequest | Denial::BadBody => StatusCode::BAD_REQUEST,
+            Denial::BadRequest | Denial::BadBody | Denial::BadCoding => StatusCode::BAD_REQUEST,
             Denial::Host => StatusCode::FORBIDDEN,
             Denial::NoPath | Denial::TracesOnly => StatusCode::NOT_FOUND,
             Denial::ExportMethod | Denial::PageMethod => StatusCode::METHOD_NOT_ALLOWED,
@@ -77,6 +79,7 @@ impl Denial {
         match self {
             Denial::BadRequest => "the request can't be read as HTTP/1.1",
             Denial::BadBody => "the body can't be read as an ExportTraceServiceRequest of protobuf",
+            Denial::BadCoding => "the body can't be read as a gzip file, as Content-Encoding says",
             Denial::Host =>
                 "this host isn't one of trace-view's: start trace-view with --host NAME",
             Denial::NoPath => "no such path: post traces to /v1/traces",
@@ -93,7 +96,7 @@ impl Denial {
             }
             Denial::UriTooLong => "the target of the request is too long",
             Denial::MediaType => {
-                "set the exporter's protocol to http/protobuf and its compression to none"
+                "set the exporter's protocol to http/protobuf, its compression to gzip or none"
             }
             Denial::FieldsTooLarge => "the fields of the request are too large",
             Denial::UnknownCoding => "a transfer coding other than chunked isn't known",

@@ -1,32 +1,46 @@
-use Rattle.std.proofs.Common.{◌∙◌, refl, sym}
-use Rattle.view_service.proofs.Received.{is_busy, is_kept, is_refused, is_unread}
+use Rattle.std.proofs.Common.{◌≡◌, ◌∙◌, Ok, ap, refl, sym}
+use Rattle.http.specs.Request.{body_of}
+use Rattle.view_service.proofs.Received.{is_meaningless, is_read, is_refused, is_undecoded}
 use Rattle.view_service.proofs.receive.receive.Goals as goal
 
 pub returns-in-Some-clause-received : goal.returns-in-Some-clause-received
 returns-in-Some-clause-received g c =
-    is_refused _ _ _ _ c.args.request.now _ _ _ _ c.denial_format-format.ensures _
-    (sym c.denial_of.ensures ∙ c.in-Some.is) c.in_ok-fill_denial.ensures refl
+    is_refused _ _ _ _ c.args.request.now _ _ _ _ _ c.denial_format-format.ensures _
+    (sym c.refusal_in.ensures ∙ c.in-Some.is)
+    (rw c.denial_by.ensures at c.in_ok-fill_denial.ensures) refl
 
-pub returns-in-Err-Fault-clause-received : goal.returns-in-Err-Fault-clause-received
-returns-in-Err-Fault-clause-received g c =
-    let unread = c.in-Err-Fault.ensures.unread in
-    is_unread _ _ _ _ c.args.request.now _ _ _ _ c.denial_format-format.ensures
-    (sym c.denial_of.ensures ∙ c.in_default.is)
-    (rw c.in-Err-Fault.field-0-is at unread) c.in_ok-fill_denial-in-Err-Fault.ensures refl
+pub returns-in_ok-receive_content-in-Ok-None-clause-received :
+    goal.returns-in_ok-receive_content-in-Ok-None-clause-received
+returns-in_ok-receive_content-in-Ok-None-clause-received g c =
+    let same : c.as_slice-content.result.now ≡ body_of c.args.request.now =
+    c.as_slice-content.ensures ∙ c.body.ensures in
+    is_read _ _ _ _ c.args.request.now _ _ _ _ _ c.denial_format-format.ensures _
+    (sym c.refusal_in.ensures ∙ c.in_default.is)
+    (rw c.in-Ok-None.field-0-is at c.in-Ok-None.ensures.content ∙ ap Ok (sym same))
+    c.in_ok-receive_content-in-Ok-None.ensures.received
+
+pub returns-in_ok-receive_content-in-Ok-Some-clause-received :
+    goal.returns-in_ok-receive_content-in-Ok-Some-clause-received
+returns-in_ok-receive_content-in-Ok-Some-clause-received g c =
+    is_read _ _ _ _ c.args.request.now _ _ _ _ _ c.denial_format-format.ensures _
+    (sym c.refusal_in.ensures ∙ c.in_default.is)
+    (rw c.in-Ok-Some.field-0-is at c.in-Ok-Some.ensures.content
+    ∙ ap Ok (sym c.as_slice-content-in-Ok-Some.ensures.value))
+    c.in_ok-receive_content-in-Ok-Some.ensures.received
+
+pub returns-in_ok-fill_denial-in-Err-Denied-clause-received :
+    goal.returns-in_ok-fill_denial-in-Err-Denied-clause-received
+returns-in_ok-fill_denial-in-Err-Denied-clause-received g c =
+    let undecoded = c.in-Err-Denied.ensures.none in
+    is_meaningless _ _ _ _ c.args.request.now _ _ _ _ _ c.denial_format-format.ensures _
+    (sym c.refusal_in.ensures ∙ c.in_default.is)
+    (rw c.in-Err-Denied.field-0-is at undecoded)
+    (rw c.in-Err-Denied.denial-is at c.in_ok-fill_denial-in-Err-Denied.ensures) refl
 
 pub returns-in-Err-OutOfMemory-clause-received : goal.returns-in-Err-OutOfMemory-clause-received
 returns-in-Err-OutOfMemory-clause-received g c =
-    is_busy _ _ _ _ c.args.request.now _ _ _ _ c.denial_format-format.ensures
-    (sym c.denial_of.ensures ∙ c.in_default.is) c.in_ok-busy.ensures c.give_room.ensures
-
-pub returns-then-keep_parts-clause-received : goal.returns-then-keep_parts-clause-received
-returns-then-keep_parts-clause-received g c =
-    is_kept _ _ _ _ c.args.request.now _ _ _ _ c.denial_format-format.ensures _
-    (sym c.denial_of.ensures ∙ c.in_default.is) c.in-Ok.ensures.parts c.in_ok-fill_taken.ensures
-    (c.keep_parts.ensures.kept c.if-keep_parts.true)
-
-pub returns-clause-received : goal.returns-clause-received
-returns-clause-received g c =
-    is_busy _ _ _ _ c.args.request.now _ _ _ _ c.denial_format-format.ensures
-    (sym c.denial_of.ensures ∙ c.in_default.is) c.in_ok-busy.ensures
-    (c.keep_parts.ensures.gave_room c.if-keep_parts.false)
+    let undecoded = c.in-Err-OutOfMemory.ensures.none in
+    is_undecoded _ _ _ _ c.args.request.now _ _ _ _ _ c.denial_format-format.ensures
+    (sym c.refusal_in.ensures ∙ c.in_default.is)
+    (rw c.in-Err-OutOfMemory.field-0-is at undecoded)
+    c.in_ok-busy.ensures c.make_room.ensures
