@@ -1,6 +1,5 @@
-use Rattle.std.proofs.Common.{◌≡◌, ◌+◌, ◌<◌, arith}
+use Rattle.std.proofs.Common.{◌≡◌, ◌<◌, arith}
 use Rattle.otel_settings.specs.declared.variable.TheConstants.Variable.{ALL}
-use Rattle.otel_settings.specs.Environments.{texts_view}
 use Rattle.otel_settings.proofs.Environments.{nothing_read, none_is_read, some_is_read}
 use Rattle.otel_settings.proofs.Environments.{all_are_read}
 use Rattle.otel_settings.proofs.environment.variables.Goals as goal
