@@ -6,7 +6,7 @@ use lib.Utf8.{encode}
 use Rattle.httparse.specs.Grammar.{trim_ows}
 use Rattle.hex.proofs.OnLiterals.{hex_on_literals}
 use Rattle.trace_context.specs.Carriers.{outgoing}
-use Rattle.trace_context.specs.Keys.{is_key_around, is_key_byte, is_name, is_tenant, is_value}
+use Rattle.trace_context.specs.Keys.{is_key, is_key_byte, is_value}
 use Rattle.trace_context.specs.Keys.{is_value_byte}
 use Rattle.trace_context.specs.Outgoing.{traceparent_text}
 use Rattle.trace_context.specs.Tracestate.{entries_in, is_entry, key_of, tracestate}
@@ -16,7 +16,7 @@ use Rattle.worked_http.proofs.client.texts.Goals as goal
 pub returns-clause-traced : goal.returns-clause-traced
 unfolding request_head expects_body digits outgoing traceparent_text hex_on_literals tracestate
     entries_in is_entry
-    key_of is_key_around is_key_byte is_name is_tenant is_value is_value_byte trim_ows is_utf8 chars
+    key_of is_key is_key_byte is_value is_value_byte trim_ows is_utf8 chars
     encode
 returns-clause-traced c = refl
 
