@@ -17,7 +17,6 @@ use Rattle.batch_processor.specs.declared.worker.WorkEnd.{WorkEnd}
 use Rattle.batch_processor.specs.declared.worker.WorkEnd.TheVariants as ends
 use Rattle.batch_service.specs.declared.fault.StartFault.{StartFault}
 use Rattle.batch_service.specs.declared.fault.StartFault.TheVariants as starts
-use Rattle.batch_service.specs.declared.service.TheConstants.{MAX_THREADS}
 use Rattle.batch_service.specs.Working.{GainsNames, IsDrained, NoneSettles}
 use Rattle.batch_service.specs.Rest.{GivesUp}
 
@@ -53,10 +52,6 @@ new_service origin handed named = record {
 -- what the processor of a service with this number of passes for others begins with
 abbrev pub origin_of : BatchConfig → ℕ → Origin
 origin_of config threads = setup_view (record { passes = threads + 2; config = config })
-
--- a service may have this number of passes (profile)
-abbrev pub IsThreadCount : ℕ → Type 0
-IsThreadCount passes = (1 ≤ passes) × (passes ≤ MAX_THREADS)
 
 -- A pass of the service's own ended no span and popped no name.
 pub record EndsNone (account : PassAccount) : Type 0 where

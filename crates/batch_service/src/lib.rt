@@ -6,6 +6,7 @@ mod fault;
 mod give;
 mod limit;
 mod naming;
+mod refusal;
 mod rest;
 mod service;
 mod serving;
@@ -15,6 +16,7 @@ mod worker;
 
 pub use fault::StartFault;
 pub use naming::{NAMED_TOGETHER, NamingPass};
+pub use refusal::refusal_of;
 pub use service::{MAX_THREADS, PassMissing, Served, Service, Started};
 pub use serving::{Done, serve, serve_within};
 pub use threads::{Room, ServicePass, Work, work_on_all};

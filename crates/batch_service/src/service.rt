@@ -1,17 +1,17 @@
 //! A batch processor whose worker has a thread of its own.
-ghost use Rattle.std.specs.Prelude.{◌≡◌, ◌≢◌, ◌+◌, ◌<◌, ◌≤◌, ◌↔◌, ◌⊎◌, ◌++◌, [], IfErr, IfOk};
+ghost use Rattle.std.specs.Prelude.{◌≡◌, ◌≢◌, ◌+◌, ◌≤◌, ◌++◌, [], IfErr, IfOk};
 ghost use Rattle.std.specs.Prelude.{IsErrOf, MatchResult, None, vec_capacity, vec_len};
 ghost use Rattle.std.specs.List.{AllByRecursion};
 ghost use Rattle.model_processor.specs.Passes.{new_account};
-ghost use Rattle.span_ring.specs.declared.ring.TheConstants.{MAX_QUEUE};
 ghost use Rattle.batch_processor.specs.Answers.{IsFlushed};
 ghost use Rattle.batch_processor.specs.Holds.{WasCounted};
-ghost use Rattle.batch_service.specs.Service.{IsServed, IsStopped, IsThreadCount, new_service};
+ghost use Rattle.batch_service.specs.Refusals.{Answers, refusal_of};
+ghost use Rattle.batch_service.specs.Service.{IsServed, IsStopped, new_service};
 ghost use Rattle.batch_service.specs.Service.{new_work, origin_of};
-ghost use Rattle.batch_service.specs.declared.service.TheConstants.{MAX_THREADS};
 
 use crate::fault::StartFault;
 use crate::limit::{self, Limit, moment_after};
+use crate::refusal::refusal_of;
 use crate::rest::give_up;
 use crate::thread::{self, Worked, WorkerThread};
 use crate::worker::Worker;
@@ -155,7 +155,8 @@ where
     ///
     /// # Errors
     ///
-    /// Why it was not started: `NoRandomBytes`, or a fault of [`Service::start_with`].
+    /// Why it was not started: the first that holds of `BadPasses` and the faults of the queue,
+    /// before any random byte is drawn, and else `NoRandomBytes`, `OutOfMemory` or `NoThread`.
     pub fn start(
         alloc: Global,
         rt: R,
@@ -173,16 +174,11 @@ where
         ensures count { IfOk result (λ started. vec_len started.passes ≡ passes) }
         ensures passes { IfOk result
             (λ started. AllByRecursion (λ a. a ≡ new_account) started.passes.items) }
-        ensures bad_passes { IsErrOf result StartFault.BadPasses
-            → (passes ≡ 0) ⊎ (MAX_THREADS < passes) }
-        ensures good_passes { IfOk result (λ _. IsThreadCount passes) }
-        ensures zero_size { IsErrOf result StartFault.ZeroSize
-            → (config.desk.queue ≡ 0) ⊎ (config.desk.batch ≡ 0) }
-        ensures batch_above_queue { IsErrOf result StartFault.BatchAboveQueue
-            → config.desk.queue < config.desk.batch }
-        ensures too_large { IsErrOf result StartFault.TooLarge
-            → MAX_QUEUE < config.desk.queue }
+        ensures fault { Answers (refusal_of config passes) result }
     {
+        if let Some(fault) = refusal_of(&config, passes) {
+            return Err(fault);
+        }
         let Ok(rng) = make_rng::<StdRng, R>(&rt) else {
             return Err(StartFault::NoRandomBytes);
         };
@@ -218,21 +214,11 @@ where
         ensures count { IfOk result (λ started. vec_len started.passes ≡ passes) }
         ensures passes { IfOk result
             (λ started. AllByRecursion (λ a. a ≡ new_account) started.passes.items) }
-
-        // The first fault that holds is the answer.
-        ensures bad_passes { IsErrOf result StartFault.BadPasses
-            ↔ ((passes ≡ 0) ⊎ (MAX_THREADS < passes)) }
-        ensures zero_size { IsErrOf result StartFault.ZeroSize
-            ↔ (IsThreadCount passes × ((config.desk.queue ≡ 0) ⊎ (config.desk.batch ≡ 0))) }
-        ensures batch_above_queue { IsErrOf result StartFault.BatchAboveQueue
-            ↔ (IsThreadCount passes
-            × ((0 < config.desk.queue) × (config.desk.queue < config.desk.batch))) }
-        ensures too_large { IsErrOf result StartFault.TooLarge
-            ↔ (IsThreadCount passes × ((0 < config.desk.batch)
-            × (config.desk.batch ≤ config.desk.queue) × (MAX_QUEUE < config.desk.queue))) }
+        ensures fault { Answers (refusal_of config passes) result }
+        ensures has_bytes { IsErrOf result StartFault.NoRandomBytes → ⊥ }
     {
-        if passes == 0 || passes > MAX_THREADS {
-            return Err(StartFault::BadPasses);
+        if let Some(fault) = refusal_of(&config, passes) {
+            return Err(fault);
         }
         let now = clock.now();
         let parts = BatchProcessor::<J, R>::with_passes(alloc, rt, blank, config, passes + 2, now)?;

@@ -1,10 +1,11 @@
 //! A whole service: its threads, and what became of their spans.
-ghost use Rattle.std.specs.Prelude.{◌≡◌, ◌<◌, ◌↔◌, ◌⊎◌, IfOk, IsErrOf, vec_len};
-ghost use Rattle.batch_service.specs.declared.service.TheConstants.{MAX_THREADS};
+ghost use Rattle.std.specs.Prelude.{◌≡◌, IfOk, vec_len};
+ghost use Rattle.batch_service.specs.Refusals.{Answers, refusal_of};
 ghost use Rattle.batch_service.specs.Service.{EndsServed, EndsStopped, new_service, origin_of};
 
 use crate::fault::StartFault;
-use crate::service::{MAX_THREADS, Served, Service, Started};
+use crate::refusal::refusal_of;
+use crate::service::{Served, Service, Started};
 use crate::threads::{Room, Work, work_on_all};
 use batch_processor::{BatchBlank, BatchConfig, Naming, Pass};
 use drop_ledger::NameSink;
@@ -39,7 +40,8 @@ struct WorkDone<J: Naming, R: Wait + Drop, E: Exporter, S: NameSink, T> {
 ///
 /// # Errors
 ///
-/// Why it was not started.
+/// Why it was not started: the first that holds of `BadPasses` and the faults of the queue, and else
+/// `NoRandomBytes`, `OutOfMemory` or `NoThread`.
 pub fn serve<R, E, S, W>(
     rt: R,
     alloc: Global,
@@ -60,8 +62,7 @@ where
         done.served.desk (E.handed done.served.exporter) (S.named done.served.sink)
         done.served.end) }
     ensures outputs { IfOk result (λ done. vec_len done.outputs ≡ threads) }
-    ensures bad_passes { IsErrOf result StartFault.BadPasses
-        ↔ ((threads ≡ 0) ⊎ (MAX_THREADS < threads)) }
+    ensures fault { Answers (refusal_of config threads) result }
 {
     let blank = BatchBlank::new();
     serve_as::<Brand, R, E, S, W>(rt, alloc, blank, exporter, sink, config, threads, work)
@@ -73,7 +74,8 @@ where
 ///
 /// # Errors
 ///
-/// Why it was not started.
+/// Why it was not started: the first that holds of `BadPasses` and the faults of the queue, and else
+/// `NoRandomBytes`, `OutOfMemory` or `NoThread`.
 pub fn serve_within<R, E, S, W>(
     rt: R,
     alloc: Global,
@@ -95,8 +97,7 @@ where
         done.served.desk (E.handed done.served.exporter) (S.named done.served.sink)
         done.served.end) }
     ensures outputs { IfOk result (λ done. vec_len done.outputs ≡ threads) }
-    ensures bad_passes { IsErrOf result StartFault.BadPasses
-        ↔ ((threads ≡ 0) ⊎ (MAX_THREADS < threads)) }
+    ensures fault { Answers (refusal_of config threads) result }
 {
     let blank = BatchBlank::new();
     serve_within_as::<Brand, R, E, S, W>(
@@ -128,8 +129,7 @@ where
         done.served.desk (E.handed done.served.exporter) (S.named done.served.sink)
         done.served.end) }
     ensures outputs { IfOk result (λ done. vec_len done.outputs ≡ threads) }
-    ensures bad_passes { IsErrOf result StartFault.BadPasses
-        ↔ ((threads ≡ 0) ⊎ (MAX_THREADS < threads)) }
+    ensures fault { Answers (refusal_of config threads) result }
 {
     let WorkDone {
         service,
@@ -167,8 +167,7 @@ where
         done.served.desk (E.handed done.served.exporter) (S.named done.served.sink)
         done.served.end) }
     ensures outputs { IfOk result (λ done. vec_len done.outputs ≡ threads) }
-    ensures bad_passes { IsErrOf result StartFault.BadPasses
-        ↔ ((threads ≡ 0) ⊎ (MAX_THREADS < threads)) }
+    ensures fault { Answers (refusal_of config threads) result }
 {
     let WorkDone {
         service,
@@ -204,11 +203,10 @@ where
         ≡ new_service (origin_of config threads) (E.handed exporter) (S.named sink)) }
     ensures passes { IfOk result (λ done. vec_len done.passes ≡ threads) }
     ensures outputs { IfOk result (λ done. vec_len done.outputs ≡ threads) }
-    ensures bad_passes { IsErrOf result StartFault.BadPasses
-        ↔ ((threads ≡ 0) ⊎ (MAX_THREADS < threads)) }
+    ensures fault { Answers (refusal_of config threads) result }
 {
-    if threads == 0 || threads > MAX_THREADS {
-        return Err(StartFault::BadPasses);
+    if let Some(fault) = refusal_of(&config, threads) {
+        return Err(fault);
     }
     let room = Room::<J, R, W::Output>::new(alloc, threads)?;
     let Started { service, passes } = Service::<J, R, E, S>::start(

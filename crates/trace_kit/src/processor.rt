@@ -15,7 +15,7 @@ pub use batch_processor::{
 };
 pub use batch_service::{
     Done, MAX_THREADS, NamingPass, PassMissing, Room, Served, Service, ServicePass, StartFault,
-    Started, Work, serve, serve_within, work_on_all,
+    Started, Work, refusal_of, serve, serve_within, work_on_all,
 };
 pub use simple_processor::{
     Flushed as SimpleFlushed, SimpleAccounts, SimpleBlank, SimpleFault, SimpleMissing, SimpleParts,

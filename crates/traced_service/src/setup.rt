@@ -1,24 +1,29 @@
 //! What a traced service is started with.
-ghost use Rattle.std.specs.Prelude.{◌≡◌, ◌↔◌, ◌<◌, ◌≤◌, ◌⊎◌, IfErr, IfOk, IsErrOf, None, vec_len};
+ghost use Rattle.std.specs.Prelude.{◌≡◌, ◌≤◌, IfErr, IfOk, None, vec_len};
 ghost use Rattle.batch_desk.specs.Views.{config_view};
 ghost use Rattle.batch_processor.specs.declared.config.BatchConfig.{BatchConfig as Config};
+ghost use Rattle.batch_service.specs.Refusals.{Answers, refusal_of};
 ghost use Rattle.batch_service.specs.Service.{EndsServed, new_service, origin_of};
 ghost use Rattle.batch_service.specs.declared.fault.StartFault.TheVariants as faults;
-ghost use Rattle.batch_service.specs.declared.service.TheConstants.{MAX_THREADS};
-ghost use Rattle.otel_settings.specs.Settings.{request_timeout};
+ghost use Rattle.otel_settings.specs.Environments.{AreRead};
+ghost use Rattle.otel_settings.specs.Faults.{faults_view};
+ghost use Rattle.otel_settings.specs.Pairs.{Pairs};
+ghost use Rattle.otel_settings.specs.Settings.{request_timeout, settings_of};
 ghost use Rattle.otlp_span.specs.Parts.{limits_view};
 ghost use Rattle.otlp_span.specs.Resources.{overlaid, service_resource};
 ghost use Rattle.otlp_value.specs.Value.{attributes_view};
 ghost use Rattle.traced_service.specs.Sums.{Sums};
-ghost use Rattle.traced_service.specs.Setups.{sampler_of};
+ghost use Rattle.traced_service.specs.Setups.{IsOf, sampler_of, setup_of};
 
 use crate::counts::TracedDone;
 use crate::work::{Traced, TracedWork};
 use batch_processor::BatchConfig;
-use batch_service::{MAX_THREADS, StartFault, serve};
+use batch_service::{StartFault, refusal_of, serve};
 use drop_ledger::NameLines;
 use http_exporter::HttpExporter;
-use otel_settings::{NamedSampler, SamplerName, SettingFault, Settings, settings_of_environment};
+use otel_settings::{
+    Environment, NamedSampler, SamplerName, SettingFault, Settings, settings_of_environment,
+};
 use otlp_http::Target;
 use otlp_ids::OutOfMemory;
 use otlp_span::{Resource, Scope, VERSION};
@@ -30,7 +35,6 @@ use std::alloc::Global;
 use std::io::Write;
 use std::net::{Net, TcpListener, TcpStream};
 use std::random::RandomSource;
-use std::rt::Env;
 use std::sync::{Arc, Wait};
 use std::thread::Threads;
 use std::time::Clock;
@@ -103,15 +107,20 @@ impl ServiceSetup {
         })
     }
 
-    /// By the environment of the process, as [`ServiceSetup::new`].
+    /// By an environment, as the process's: as [`ServiceSetup::new`] by the settings that it makes.
     ///
     /// # Errors
     ///
     /// `OutOfMemory` where memory was refused.
-    pub fn from_environment<R: Env + AllocGlobal>(
+    pub fn from_environment<R: Environment + AllocGlobal>(
         rt: &R,
         name: &str,
-    ) -> Result<ServiceSetup, OutOfMemory> {
+    ) -> Result<ServiceSetup, OutOfMemory>
+        ensures { IfOk result (λ setup. (pairs : Pairs) × AreRead (R.gives rt.now) pairs
+            × IsOf (setup_of VERSION.now name.now (settings_of pairs)) setup.provider
+            (config_view setup.config.desk) setup.target setup.timeout_ms
+            (faults_view setup.faults.items) setup.is_off) }
+    {
         let settings = settings_of_environment(rt)?;
         ServiceSetup::new(rt.alloc(), name, settings)
     }
@@ -143,7 +152,7 @@ impl ServiceSetup {
         &self.faults
     }
 
-    /// Serves with this number of threads, 1 to [`MAX_THREADS`]: does
+    /// Serves with this number of threads, 1 to [`MAX_THREADS`](batch_service::MAX_THREADS): does
     /// the work of each, exports its spans over HTTP, and stops once all work is done, as
     /// [`batch_service::serve`]. A line for each goes to the log: first for what the settings have
     /// that can't be used, and then for each span that isn't delivered.
@@ -170,8 +179,7 @@ impl ServiceSetup {
             done.served.desk None None done.served.end) }
         ensures threads { IfOk result (λ done. vec_len done.threads ≡ threads) }
         ensures refused { IfOk result (λ done. Sums done.threads.items done.refused) }
-        ensures bad_passes { IsErrOf result StartFault.BadPasses
-            ↔ ((threads ≡ 0) ⊎ (MAX_THREADS < threads)) }
+        ensures fault { Answers (refusal_of self.config threads) result }
     {
         let ServiceSetup {
             is_off: _,
@@ -182,8 +190,8 @@ impl ServiceSetup {
             config,
             faults,
         } = self;
-        if threads == 0 || threads > MAX_THREADS {
-            return Err(StartFault::BadPasses);
+        if let Some(fault) = refusal_of(&config, threads) {
+            return Err(fault);
         }
         report(&mut log, &faults);
         let alloc = rt.alloc();
@@ -240,7 +248,7 @@ pub fn serve_from_environment<R, L, W>(
     work: &W,
 ) -> Result<TracedDone<W::Output, R, L>, StartFault>
 where
-    R: Threads + Wait + RandomSource + Clock + Env + AllocGlobal,
+    R: Threads + Wait + RandomSource + Clock + Environment + AllocGlobal,
     R: Net<Listener = TcpListener, Stream = TcpStream>,
     R: Copy + Send + Sync + 'static,
     L: Write + Send + Drop + 'static,

@@ -8,9 +8,10 @@ use crate::made::{config, count_spans, entry};
 use batch_desk::{DrainedNames, FateCounts};
 use batch_processor::{BatchBlank, Naming, NewFault, Parts};
 use linked_list_allocator::LocalHeap;
+use otlp_ids::OutOfMemory;
 use otlp_span::Reason;
 use retry_core::Outcome;
-use span_exporter::MemoryExporter;
+use span_exporter::{Exporter, MemoryExporter};
 use std::alloc::Allocator;
 use std::marker::Brand;
 use std::process::Abort;
@@ -105,8 +106,31 @@ where
     refused
 }
 
-/// A batch is settled while no span waits: the worker frees its spans, and the next end has none
-/// freed in its place.
+/// Delivers each batch, and keeps nothing of it.
+#[derive(Drop)]
+struct Delivers {
+    batches: u32,
+}
+
+impl Exporter for Delivers {
+    ghost use Rattle.std.specs.Prelude.{None, ◌^◌, ◌-◌};
+
+    ghost handed = { λ _. None };
+
+    ghost room = { λ _ _. 2 ^ 32 - 1 };
+
+    fn prepare(&mut self, _size: usize, _attempts: u32) -> Result<(), OutOfMemory> {
+        Ok(())
+    }
+
+    fn export(&mut self, _number: u64, _attempt: u32, _body: &[u8]) -> Outcome {
+        self.batches = self.batches.saturating_add(1);
+        Outcome::Delivered
+    }
+}
+
+/// A batch is settled while no span waits: the worker frees its spans and its body, so that as much
+/// memory is used as before they ended. The next end has none freed in its place.
 fn send_while_none_waits<J, R, A>(rt: R, heap: &LocalHeap, alloc: A, blank: BatchBlank)
 where
     J: Naming,
@@ -119,11 +143,12 @@ where
         mut passes,
         mut worker,
     } = make::<J, R, A>(rt, alloc, blank, config(4, 2), 1, 0);
-    let mut exporter = MemoryExporter::new(alloc, Vec::new(alloc));
-    queue(&rt, alloc, passes.as_mut_slice(), 0, 2);
-    work(rt, alloc, &mut worker, &mut exporter, 0, TURNS);
-    assert_equal(&rt, exporter.handed().len(), 1);
+    let mut exporter = Delivers { batches: 0 };
     let used = heap.used();
+    queue(&rt, alloc, passes.as_mut_slice(), 0, 2);
+    assert_equal(&rt, heap.used() > used, true);
+    work(rt, alloc, &mut worker, &mut exporter, 0, TURNS);
+    assert_equal(&rt, (exporter.batches, heap.used()), (1, used));
     queue(&rt, alloc, passes.as_mut_slice(), 2, 1);
     assert_equal(&rt, heap.used() > used, true);
     close(rt, alloc, processor, passes, worker);
