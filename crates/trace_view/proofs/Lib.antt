@@ -1,2 +1,7 @@
 pub mod Causes
 pub mod Leading
+pub mod Looking
+pub mod Sweeping
+pub mod InTime
+pub mod Living
+pub mod Counting

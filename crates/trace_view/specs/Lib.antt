@@ -7,3 +7,4 @@ pub mod Kinds
 pub mod Waiting
 pub mod Serving
 pub mod Stages
+pub mod Crowds

@@ -1,6 +1,8 @@
 //! When further peers are accepted.
-ghost use Rattle.std.specs.Prelude.{◌≡◌, ◌≢◌, ◌<◌, ◌+◌, ◌-◌, ◌^◌, ◌↔◌, ℕ, IsTrue};
+ghost use Rattle.std.specs.Prelude.{◌≡◌, ◌≢◌, ◌+◌, ◌-◌, ◌^◌, ◌↔◌, IsTrue, min};
 ghost use Rattle.trace_view.specs.Accepts.{IsDue};
+
+use std::io::ErrorKind;
 
 /// How long the system is waited for at most, in milliseconds, and how long after it had no room
 /// for another peer it is asked again. (profile)
@@ -18,13 +20,18 @@ pub enum Accepting {
 }
 
 impl Accepting {
-    /// After the system had no room for another one at this moment, in milliseconds: not before a
-    /// tick has passed, so that nothing spins.
-    pub fn after_refusal(now_ms: u64) -> Accepting
-        ensures { (earlier : ℕ) → earlier < now_ms + TICK_MS → earlier < 2 ^ 64 - 1
-            → ¬ IsDue result earlier }
+    /// After the system gave none at this moment, in milliseconds, for an error of this kind. Where
+    /// none waits, the listener reports the next one. Where it had no room it is asked again once a
+    /// tick has passed, so that nothing spins: the listener reports no more those that wait.
+    pub fn after_error(kind: ErrorKind, now_ms: u64) -> Accepting
+        ensures none { kind ≡ ErrorKind.WouldBlock → result ≡ Accepting.WhenReported }
+        ensures room { kind ≢ ErrorKind.WouldBlock
+            → result ≡ Accepting.At (min (now_ms + 500) (2 ^ 64 - 1)) }
     {
-        Accepting::At(now_ms.saturating_add(TICK_MS))
+        match kind {
+            ErrorKind::WouldBlock => Accepting::WhenReported,
+            _ => Accepting::At(now_ms.saturating_add(TICK_MS)),
+        }
     }
 
     /// After the listener reported one.
@@ -53,7 +60,7 @@ impl Accepting {
     /// that can be accepted.
     pub fn wait_ms(self) -> u64
         ensures at_once { self ≡ Accepting.AtOnce → result ≡ 0 }
-        ensures otherwise { self ≢ Accepting.AtOnce → result ≡ TICK_MS }
+        ensures otherwise { self ≢ Accepting.AtOnce → result ≡ 500 }
     {
         match self {
             Accepting::AtOnce => 0,

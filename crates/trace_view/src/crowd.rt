@@ -1,4 +1,9 @@
 //! The peers of the program: they join, have turns, and leave.
+ghost use Rattle.std.specs.Prelude.{◌≡◌, ◌⊎◌, ◌<◌, ◌≤◌, IfSome, None, false};
+ghost use Rattle.slab.specs.Slab.{Updates, entries, get, slab_len};
+ghost use Rattle.trace_view.specs.Crowds.{AreJudged, Counts, IsLive, JudgedAt, Joins, SameBeside};
+ghost use Rattle.trace_view.specs.Crowds.{Sheds, ShutAt, Takes, is_looked_at, waiters_of};
+ghost use Rattle.trace_view.specs.Waiting.{IsLongest};
 
 use crate::peer::{Peer, Turn};
 use crate::{Accepting, Due, Longest, Pending, Stage, StageTimes, Waiter};
@@ -8,7 +13,7 @@ use mio::{Interest, Poll, Token};
 use slab::Slab;
 use std::alloc::Global;
 use std::hash::RandomState;
-use std::io::{self, ErrorKind};
+use std::io::ErrorKind;
 use std::net::{Net, Shutdown};
 use std::random::RandomSource;
 use std::time::Clock;
@@ -37,10 +42,10 @@ pub struct Settings {
 pub(crate) struct Crowd<R, P> {
     pub(crate) rt: R,
     alloc: Global,
-    settings: Settings,
+    pub(crate) settings: Settings,
     listener: TcpListener,
     pub(crate) poll: Poll,
-    peers: Slab<Peer<TcpStream, P>>,
+    pub(crate) peers: Slab<Peer<TcpStream, P>>,
     pending: Pending,
     pub(crate) accepting: Accepting,
 }
@@ -59,6 +64,30 @@ fn both_ways() -> Interest {
     Interest::READABLE | Interest::WRITABLE
 }
 
+/// Whether a peer at this stage is looked at: each one is, or those without a request.
+fn is_looked_at(only_idle: bool, stage: Stage) -> bool
+    ensures { result ≡ is_looked_at only_idle stage }
+{
+    !only_idle || matches!(stage, Stage::Idle)
+}
+
+/// The peer that has waited longest, of all or of those without a request.
+fn longest<T, P>(peers: &Slab<Peer<T, P>>, only_idle: bool) -> Option<Waiter>
+    ensures { IsLongest (waiters_of only_idle (entries peers.now)) result }
+{
+    let mut longest = Longest::new();
+    for (key, peer) in peers.iter() {
+        let clock = peer.clock();
+        if is_looked_at(only_idle, clock.stage) {
+            longest.look(Waiter {
+                key,
+                since_ms: clock.since_ms,
+            });
+        }
+    }
+    longest.found
+}
+
 impl<R, P> Crowd<R, P>
 where
     R: Net + RandomSource + Clock + Copy,
@@ -71,7 +100,9 @@ where
         alloc: Global,
         mut listener: TcpListener,
         settings: Settings,
-    ) -> Option<Crowd<R, P>> {
+    ) -> Option<Crowd<R, P>>
+        ensures { IfSome result (λ crowd. crowd.settings ≡ settings) }
+    {
         let Ok(poll) = Poll::new(&rt) else {
             return None;
         };
@@ -93,65 +124,125 @@ where
     }
 
     /// Closes a peer.
-    fn close(&mut self, key: usize) {
+    fn close(&mut self, key: usize)
+        ensures peers { Updates self.old.peers self.new.peers key None }
+        ensures capacity { self.new.peers.capacity ≡ self.old.peers.capacity }
+        ensures held { Counts key self.old.peers self.old.pending.held
+            self.new.peers self.new.pending.held }
+        ensures rest { self.new
+            ≡ record self.old { peers = self.new.peers; pending = self.new.pending } }
+    {
         if let Some(peer) = self.peers.try_remove(key) {
             self.pending.change(peer.held(), 0);
         }
     }
 
-    /// The peer that has waited longest, of all or of those without a request.
-    fn longest(&self, only_idle: bool) -> Option<usize> {
-        let mut longest = Longest::new();
-        for (key, peer) in self.peers.iter() {
-            let clock = peer.clock();
-            if !only_idle || matches!(clock.stage, Stage::Idle) {
-                longest.look(Waiter {
-                    key,
-                    since_ms: clock.since_ms,
-                });
-            }
+    /// Closes the peer that has waited longest, of all or of those without a request.
+    fn shed(&mut self, only_idle: bool)
+        ensures sheds { Sheds only_idle self.old.peers self.new.peers }
+        ensures rest { self.new
+            ≡ record self.old { peers = self.new.peers; pending = self.new.pending } }
+    {
+        if let Some(waiter) = longest(&self.peers, only_idle) {
+            self.close(waiter.key);
         }
-        longest.key()
     }
 
-    /// Closes the peer that has waited longest, of all or of those without a request.
-    fn shed(&mut self, only_idle: bool) {
-        if let Some(key) = self.longest(only_idle) {
+    /// Has a peer reported when it is ready, or closes it where that can't be done.
+    fn register(&mut self, key: usize)
+        ensures peer { (get self.new.peers key ≡ get self.old.peers key)
+            ⊎ (get self.new.peers key ≡ None) }
+        ensures others { SameBeside key self.old.peers self.new.peers }
+        ensures rest { self.new
+            ≡ record self.old { peers = self.new.peers; pending = self.new.pending } }
+    {
+        let Some(peer) = self.peers.get_mut(key) else {
+            return;
+        };
+        let registry = self.poll.registry();
+        if registry
+            .register(&mut peer.stream, Token(key), both_ways())
+            .is_err()
+        {
             self.close(key);
         }
     }
 
-    /// Adds a peer, which is then reported.
-    fn add(&mut self, stream: TcpStream, now_ms: u64) -> io::Result<()> {
-        let _ = stream.set_nodelay(true);
-        let keys = RandomState::new(&self.rt)?;
-        let connection = Connection::new(self.alloc, keys, self.settings.limits);
-        let peer = Peer::new(stream, connection, now_ms);
-        let Ok(key) = self.peers.insert(peer) else {
-            return Err(ErrorKind::OutOfMemory.into());
-        };
+    /// Has a peer reported again if it is ready, or closes it where that can't be done.
+    fn watch(&mut self, key: usize)
+        ensures peer { (get self.new.peers key ≡ get self.old.peers key)
+            ⊎ (get self.new.peers key ≡ None) }
+        ensures others { SameBeside key self.old.peers self.new.peers }
+        ensures rest { self.new
+            ≡ record self.old { peers = self.new.peers; pending = self.new.pending } }
+    {
         let Some(peer) = self.peers.get_mut(key) else {
-            return Ok(());
+            return;
         };
-        self.poll
-            .registry()
-            .register(peer.stream(), Token(key), both_ways())
+        let registry = self.poll.registry();
+        if registry
+            .reregister(&mut peer.stream, Token(key), both_ways())
+            .is_err()
+        {
+            self.close(key);
+        }
+    }
+
+    /// Adds a peer, which is then reported. One for which memory or a place in the system's list is
+    /// refused is closed.
+    fn add(&mut self, stream: TcpStream, now_ms: u64)
+        ensures joins { Joins now_ms self.old.peers self.new.peers }
+        ensures rest { self.new
+            ≡ record self.old { peers = self.new.peers; pending = self.new.pending } }
+    {
+        let _ = stream.set_nodelay(true);
+        let Ok(keys) = RandomState::new(&self.rt) else {
+            return;
+        };
+        let connection = Connection::new(self.alloc, keys, self.settings.limits);
+        if let Ok(key) = self.peers.insert(Peer::new(stream, connection, now_ms)) {
+            self.register(key);
+        }
+    }
+
+    /// Closes the peer that has waited longest where there are as many as there may be.
+    fn make_room(&mut self)
+        ensures full { self.old.settings.most ≤ slab_len self.old.peers
+            → Sheds false self.old.peers self.new.peers }
+        ensures fits { slab_len self.old.peers < self.old.settings.most
+            → self.new.peers ≡ self.old.peers }
+        ensures rest { self.new
+            ≡ record self.old { peers = self.new.peers; pending = self.new.pending } }
+    {
+        if self.peers.len() >= self.settings.most {
+            self.shed(false);
+        }
+    }
+
+    /// Takes a peer, for which another one is closed where there are as many as there may be.
+    fn take(&mut self, stream: TcpStream, now_ms: u64)
+        ensures takes { Takes self.old.settings.most now_ms self.old.peers self.new.peers }
+        ensures rest { self.new
+            ≡ record self.old { peers = self.new.peers; pending = self.new.pending } }
+    {
+        self.make_room();
+        self.add(stream, now_ms);
     }
 
     /// Accepts the peers that wait, at most as many as let the others have their turn soon, and
     /// notes when the next ones are accepted. Answers how many they were.
-    pub(crate) fn accept(&mut self, now_ms: u64) -> usize {
+    pub(crate) fn accept(&mut self, now_ms: u64) -> usize
+        ensures { self.new.settings ≡ self.old.settings }
+    {
         for accepted in 0..ACCEPTS {
             match self.listener.accept() {
                 Ok((stream, _)) => self.take(stream, now_ms),
-                Err(error) if error.kind() == ErrorKind::WouldBlock => {
-                    self.accepting = Accepting::WhenReported;
-                    return accepted;
-                }
-                Err(_) => {
-                    // The system has no room for another one.
-                    self.shed(true);
-                    self.accepting = Accepting::after_refusal(now_ms);
+                Err(error) => {
+                    self.accepting = Accepting::after_error(error.kind(), now_ms);
+                    if self.accepting != Accepting::WhenReported {
+                        // The system has no room for another one.
+                        self.shed(true);
+                    }
                     return accepted;
                 }
             }
@@ -160,40 +251,32 @@ where
         ACCEPTS
     }
 
-    /// Takes a peer, for which another one is closed where there are as many as there may be.
-    fn take(&mut self, stream: TcpStream, now_ms: u64) {
-        if self.peers.len() >= self.settings.most {
-            self.shed(false);
-        }
-        // One whose memory is refused is closed.
-        let _ = self.add(stream, now_ms);
-    }
-
-    /// Shuts down writing to a peer. Whether that went well.
-    fn shut_down(&mut self, key: usize, now_ms: u64) -> bool {
+    /// Shuts down writing to a peer, or closes it where that can't be done.
+    fn shut_down(&mut self, key: usize, now_ms: u64)
+        ensures shut { ShutAt now_ms (get self.old.peers key) (get self.new.peers key) }
+        ensures others { SameBeside key self.old.peers self.new.peers }
+        ensures capacity { self.new.peers.capacity ≡ self.old.peers.capacity }
+        ensures rest { self.new
+            ≡ record self.old { peers = self.new.peers; pending = self.new.pending } }
+    {
         let Some(peer) = self.peers.get_mut(key) else {
-            return false;
+            return;
         };
-        if peer.stream().shutdown(Shutdown::Write).is_err() {
-            return false;
+        if peer.stream.shutdown(Shutdown::Write).is_ok() {
+            peer.note_shut(now_ms);
+        } else {
+            self.close(key);
         }
-        peer.note_shut(now_ms);
-        true
-    }
-
-    /// Has a peer reported again if it is ready. Whether that went well.
-    fn watch(&mut self, key: usize) -> bool {
-        let Some(peer) = self.peers.get_mut(key) else {
-            return false;
-        };
-        self.poll
-            .registry()
-            .reregister(peer.stream(), Token(key), both_ways())
-            .is_ok()
     }
 
     /// Gives a peer its turn.
-    pub(crate) fn serve<S: Service<Pieces = P>>(&mut self, service: &mut S, key: usize) {
+    pub(crate) fn serve<S: Service<Pieces = P>>(&mut self, service: &mut S, key: usize)
+        ensures others { SameBeside key self.old.peers self.new.peers }
+        ensures lives { IfSome (get self.old.peers key) IsLive
+            → IfSome (get self.new.peers key) IsLive }
+        ensures rest { self.new
+            ≡ record self.old { peers = self.new.peers; pending = self.new.pending } }
+    {
         let room = usize::try_from(self.pending.room()).unwrap_or(usize::MAX);
         let rt = self.rt;
         let Some(peer) = self.peers.get_mut(key) else {
@@ -203,35 +286,41 @@ where
         let turn = peer.serve(service, room, &rt);
         let after = peer.held();
         self.pending.change(before, after);
-        let goes_on = match turn {
-            Turn::Waits => true,
+        match turn {
+            Turn::Waits => {}
             Turn::Again => self.watch(key),
-            Turn::ShutsDown => self.shut_down(key, now_ms(&rt)) && self.watch(key),
-            Turn::Ends => false,
-        };
-        if !goes_on {
-            self.close(key);
+            Turn::ShutsDown => {
+                self.shut_down(key, now_ms(&rt));
+                self.watch(key);
+            }
+            Turn::Ends => self.close(key),
         }
     }
 
     /// Closes a peer that is over its time, or shuts down writing to it.
-    fn judge(&mut self, key: usize, now_ms: u64) {
-        let due = match self.peers.get(key) {
-            Some(peer) => peer.due(&self.settings.times, now_ms),
-            None => Due::Wait,
+    fn judge(&mut self, key: usize, now_ms: u64)
+        ensures judged { JudgedAt self.old.settings.times now_ms
+            (get self.old.peers key) (get self.new.peers key) }
+        ensures others { SameBeside key self.old.peers self.new.peers }
+        ensures capacity { self.new.peers.capacity ≡ self.old.peers.capacity }
+        ensures rest { self.new
+            ≡ record self.old { peers = self.new.peers; pending = self.new.pending } }
+    {
+        let Some(peer) = self.peers.get(key) else {
+            return;
         };
-        let goes_on = match due {
-            Due::Wait => true,
+        match peer.due(&self.settings.times, now_ms) {
+            Due::Wait => {}
             Due::ShutDown => self.shut_down(key, now_ms),
-            Due::Close => false,
-        };
-        if !goes_on {
-            self.close(key);
+            Due::Close => self.close(key),
         }
     }
 
     /// Does so with each.
-    pub(crate) fn sweep(&mut self, now_ms: u64) {
+    pub(crate) fn sweep(&mut self, now_ms: u64)
+        ensures judged { AreJudged self.old.settings.times now_ms self.old.peers self.new.peers }
+        ensures settings { self.new.settings ≡ self.old.settings }
+    {
         for key in 0..self.peers.capacity() {
             self.judge(key, now_ms);
         }

@@ -1,5 +1,5 @@
 //! Which peer is closed where there is no room for another one.
-ghost use Rattle.std.specs.Prelude.{◌≡◌, [], ◌∷◌, ◌++◌, List, option_map};
+ghost use Rattle.std.specs.Prelude.{◌≡◌, [], ◌∷◌, ◌++◌, List};
 ghost use Rattle.trace_view.specs.Waiting.{IsLongest};
 ghost use Rattle.trace_view.specs.declared.longest.Waiter.{Waiter as AWaiter};
 
@@ -35,16 +35,6 @@ impl Longest {
         match self.found {
             Some(found) if found.since_ms <= waiter.since_ms => {}
             _ => self.found = Some(waiter),
-        }
-    }
-
-    /// The key of the one that has waited longest.
-    pub fn key(self) -> Option<usize>
-        ensures { result ≡ option_map (λ waiter. waiter.key) self.found }
-    {
-        match self.found {
-            Some(waiter) => Some(waiter.key),
-            None => None,
         }
     }
 }

@@ -1,8 +1,14 @@
 //! A peer that has connected.
-ghost use Rattle.std.specs.Prelude.{◌≡◌, ◌≢◌, Some, min};
-ghost use Rattle.http_connection.specs.Connections.{held_of, place_of};
+ghost use Rattle.std.specs.Prelude.{◌≡◌, ◌≢◌, ◌<◌, ◌↔◌, Err, IfErr, IfOk, Ok, OnOk, Some, false, length};
+ghost use Rattle.std.specs.Prelude.{min, true};
+ghost use Rattle.std.specs.IoError.{error_kind};
+ghost use Rattle.http_connection.specs.Connections.{held_of, pending_of, phase_of, place_of};
+ghost use Rattle.trace_view.specs.Clocks.{IsOver, due_at, is_of_requests};
+ghost use Rattle.trace_view.specs.Crowds.{IsLive, IsShut, clock_of};
 ghost use Rattle.trace_view.specs.Serving.{IsSeen, Serves, connection_of};
 ghost use Rattle.trace_view.specs.Stages.{stage_at};
+ghost use Rattle.trace_view.specs.declared.clock.Stage.{Stage as AStage};
+ghost use Rattle.trace_view.specs.declared.clock.Stage.TheVariants.{Idle};
 
 use crate::crowd::now_ms;
 use crate::{Due, PeerClock, Sight, Stage, StageTimes};
@@ -41,7 +47,7 @@ struct Moved {
 /// its connection.
 #[derive(Drop)]
 pub struct Peer<T, P> {
-    stream: T,
+    pub(crate) stream: T,
     connection: Connection<P>,
     clock: PeerClock,
     // Whether writing was shut down.
@@ -51,7 +57,8 @@ pub struct Peer<T, P> {
 impl<T, P> Peer<T, P> {
     /// A peer that has connected at this moment, in milliseconds.
     pub fn new(stream: T, connection: Connection<P>, now_ms: u64) -> Peer<T, P>
-        ensures { connection_of result ≡ connection }
+        ensures connection { connection_of result ≡ connection }
+        ensures clock { clock_of result ≡ record { stage = Idle; since_ms = now_ms } }
     {
         Peer {
             stream,
@@ -61,13 +68,10 @@ impl<T, P> Peer<T, P> {
         }
     }
 
-    /// The stream to it.
-    pub fn stream(&mut self) -> &mut T {
-        &mut self.stream
-    }
-
     /// Since when it waits at its stage, and which one that is.
-    pub fn clock(&self) -> PeerClock {
+    pub fn clock(&self) -> PeerClock
+        ensures { result ≡ clock_of self.now }
+    {
         self.clock
     }
 
@@ -79,7 +83,11 @@ impl<T, P> Peer<T, P> {
     }
 
     /// What is to be done with it at this moment, in milliseconds.
-    pub fn due(&self, times: &StageTimes, now_ms: u64) -> Due {
+    pub fn due(&self, times: &StageTimes, now_ms: u64) -> Due
+        ensures waits { (result ≡ Due.Wait) ↔ ¬ IsOver times.now (clock_of self.now) now_ms }
+        ensures over { IsOver times.now (clock_of self.now) now_ms
+            → result ≡ due_at (clock_of self.now).stage }
+    {
         self.clock.due(times, now_ms)
     }
 
@@ -87,6 +95,12 @@ impl<T, P> Peer<T, P> {
     fn note(&mut self, took: bool, now_ms: u64)
         ensures connection { connection_of self.new ≡ connection_of self.old }
         ensures seen { IsSeen self.new }
+        ensures moved { (stage : AStage)
+            → stage_at (phase_of (connection_of self.old)) self.old.is_shut ≡ Some stage
+            → stage ≢ (clock_of self.old).stage
+            → clock_of self.new ≡ record { stage = stage; since_ms = now_ms } }
+        ensures taken { took ≡ true → is_of_requests (clock_of self.new).stage ≡ true
+            → IsLive self.new → (clock_of self.new).since_ms ≡ now_ms }
     {
         if let Some(stage) = stage_at(self.connection.phase(), self.is_shut) {
             self.clock.note(Sight {
@@ -99,7 +113,7 @@ impl<T, P> Peer<T, P> {
 
     /// Notes that writing was shut down at this moment, in milliseconds.
     pub fn note_shut(&mut self, now_ms: u64)
-        ensures connection { connection_of self.new ≡ connection_of self.old }
+        ensures shut { IsShut now_ms self.old self.new }
         ensures seen { IsSeen self.new }
     {
         self.is_shut = true;
@@ -123,9 +137,15 @@ fn stage_at(phase: Phase, is_shut: bool) -> Option<Stage>
     }
 }
 
-/// Whether a read or a write moved something, or is to be tried again. One that would wait moved
-/// nothing.
-fn is_moved(moved: io::Result<usize>) -> io::Result<bool> {
+/// Whether a read or a write moved something, or is to be tried again, as where it was interrupted.
+/// One that would wait moved nothing.
+fn is_moved(moved: io::Result<usize>) -> io::Result<bool>
+    ensures moved { OnOk moved (result ≡ Ok true) }
+    ensures waits { IfErr moved (λ e. error_kind e ≡ ErrorKind.WouldBlock → result ≡ Ok false) }
+    ensures again { IfErr moved (λ e. error_kind e ≡ ErrorKind.Interrupted → result ≡ Ok true) }
+    ensures ends { IfErr moved (λ e. error_kind e ≢ ErrorKind.WouldBlock
+        → error_kind e ≢ ErrorKind.Interrupted → result ≡ Err e) }
+{
     match moved {
         Ok(_) => Ok(true),
         Err(error) if error.kind() == ErrorKind::WouldBlock => Ok(false),
@@ -137,6 +157,8 @@ fn is_moved(moved: io::Result<usize>) -> io::Result<bool> {
 impl<T: Read + Write, P> Peer<T, P> {
     /// Writes what is pending.
     fn write_bytes(&mut self) -> io::Result<bool>
+        ensures wrote { IfOk result (λ wrote. wrote ≡ false
+            → pending_of (connection_of self.new) ≡ pending_of (connection_of self.old)) }
         ensures place { place_of (connection_of self.new) ≡ place_of (connection_of self.old) }
         ensures limits { (connection_of self.new).limits ≡ (connection_of self.old).limits }
     {
@@ -152,6 +174,7 @@ impl<T: Read + Write, P> Peer<T, P> {
 
     /// Reads what has come.
     fn read_bytes(&mut self) -> io::Result<bool>
+        ensures pending { pending_of (connection_of self.new) ≡ pending_of (connection_of self.old) }
         ensures place { place_of (connection_of self.new) ≡ place_of (connection_of self.old) }
         ensures limits { (connection_of self.new).limits ≡ (connection_of self.old).limits }
     {
@@ -163,6 +186,8 @@ impl<T: Read + Write, P> Peer<T, P> {
 
     /// Writes once and reads once, where the connection asks for it.
     fn move_bytes(&mut self) -> io::Result<Moved>
+        ensures wrote { IfOk result (λ moved. moved.wrote ≡ false
+            → pending_of (connection_of self.new) ≡ pending_of (connection_of self.old)) }
         ensures place { place_of (connection_of self.new) ≡ place_of (connection_of self.old) }
         ensures limits { (connection_of self.new).limits ≡ (connection_of self.old).limits }
     {
@@ -176,6 +201,11 @@ impl<T: Read + Write, P: Pieces + Drop> Peer<T, P> {
     /// Writes and reads once, where the connection asks for it. `None` where it can go on at once.
     fn go_on(&mut self, at_ms: u64) -> Option<Turn>
         ensures seen { result ≢ Some Turn.Ends → IsSeen self.new }
+        ensures lives { result ≢ Some Turn.Ends → IsLive self.new }
+        ensures taken { result ≢ Some Turn.Ends → length (pending_of (connection_of self.new))
+            < length (pending_of (connection_of self.old))
+            → is_of_requests (clock_of self.new).stage ≡ true
+            → (clock_of self.new).since_ms ≡ at_ms }
         ensures place { place_of (connection_of self.new) ≡ place_of (connection_of self.old) }
         ensures limits { (connection_of self.new).limits ≡ (connection_of self.old).limits }
     {
@@ -199,6 +229,7 @@ impl<T: Read + Write, P: Pieces + Drop> Peer<T, P> {
         rt: &R,
     ) -> Option<Turn>
         ensures seen { result ≢ Some Turn.Ends → IsSeen self.new }
+        ensures lives { result ≢ Some Turn.Ends → IsLive self.new }
         ensures served { Serves S.answers P.writes service.old self.old service.new self.new }
         ensures limits { (connection_of self.new).limits ≡ (connection_of self.old).limits }
     {
@@ -226,6 +257,7 @@ impl<T: Read + Write, P: Pieces + Drop> Peer<T, P> {
         rt: &R,
     ) -> Turn
         ensures seen { result ≢ Turn.Ends → IsSeen self.new }
+        ensures lives { IsLive self.old → result ≢ Turn.Ends → IsLive self.new }
         ensures served { Serves S.answers P.writes service.old self.old service.new self.new }
         ensures limits { (connection_of self.new).limits ≡ (connection_of self.old).limits }
     {

@@ -1,5 +1,5 @@
 //! How many bytes may be pending.
-ghost use Rattle.std.specs.Prelude.{◌≡◌, ◌-◌, ◌<◌, ◌^◌, ◌∷◌, ℕ, List, sum};
+ghost use Rattle.std.specs.Prelude.{◌≡◌, ◌+◌, ◌-◌, ◌<◌, ◌^◌, ℕ};
 
 /// The bytes that all connections hold together, and the most that they may.
 #[derive(Clone, Copy, Debug, PartialEq, Eq)]
@@ -25,12 +25,12 @@ impl Pending {
         self.most.saturating_sub(self.held)
     }
 
-    /// Notes that a connection which held `before` bytes now holds `after`: what is held is the sum
-    /// over all connections again.
+    /// Notes that a connection which held `before` bytes now holds `after`: what is held is that and
+    /// what the others hold again.
     pub fn change(&mut self, before: u64, after: u64)
         ensures most { self.new.most ≡ self.old.most }
-        ensures held { (others : List ℕ) → self.old.held ≡ sum (before ∷ others)
-            → sum (after ∷ others) < 2 ^ 64 → self.new.held ≡ sum (after ∷ others) }
+        ensures held { (others : ℕ) → self.old.held ≡ before + others
+            → after + others < 2 ^ 64 → self.new.held ≡ after + others }
     {
         self.held = self.held.saturating_sub(before).saturating_add(after);
     }

@@ -171,6 +171,11 @@ fn settings_of(args: &ViewArgs) -> Settings
         → result.times.idle_ms ≡ args.now.idle_seconds * 1_000 }
     ensures request { args.now.request_seconds ≤ 86_400
         → result.times.request_ms ≡ args.now.request_seconds * 1_000 }
+    ensures answer { result.times.answer_ms ≡ result.times.request_ms }
+    ensures discard { result.times.discard_ms ≡ 2_000 }
+    ensures close { result.times.close_ms ≡ 1_000 }
+    ensures most { result.most ≡ 8_192 }
+    ensures max_body { result.limits.max_body ≡ args.now.max_body }
     ensures pending { args.now.pending_mb ≤ 1_048_576
         → result.pending ≡ args.now.pending_mb * 1_048_576 }
 {
@@ -218,6 +223,8 @@ where
 /// How much is kept.
 fn limits_of(args: &ViewArgs) -> trace_store::Limits
     ensures spans { result.max_spans ≡ args.now.keep_spans }
+    ensures bytes { args.now.keep_mb ≤ 1_048_576
+        → result.max_bytes ≡ args.now.keep_mb * 1_048_576 }
 {
     trace_store::Limits {
         max_spans: args.keep_spans,

@@ -1,4 +1,5 @@
-use Rattle.std.proofs.Common.{◌∙◌, ap}
+use Rattle.std.proofs.Common.{◌∙◌, ap, arith, rules}
+use Rattle.std.proofs.lemmas.Grind.{common_steps}
 use Rattle.http_connection.specs.declared.limits.Limits.{Limits}
 use Rattle.trace_view.proofs.Leading.{leads-then}
 use Rattle.trace_view.proofs.peer.Peer.serve.Goals as goal
@@ -15,5 +16,6 @@ loop-preserved g c = record {
       leads-then g.S.Service.answers g.P.Pieces.writes _ _ _ _ _ _ _ _
       (ap (λ (l : Limits). l.max_body) c.loop.invariant.limits) c.loop.invariant.served
       c.step.ensures.served;
+  lives = λ _. c.step.ensures.lives (first_of (search rules, grind (arith, common_steps)));
   limits = c.step.ensures.limits ∙ c.loop.invariant.limits;
 }

@@ -1,0 +1,10 @@
+use Rattle.std.proofs.Common.{◌≡◌}
+use Rattle.trace_view.proofs.Sweeping.{AreSwept}
+use Rattle.trace_view.proofs.crowd.Crowd.sweep.Given as goal
+
+-- the peers with lower keys were judged
+abbrev pub invariant-loop-key : goal.invariant-loop-key
+invariant-loop-key g l = record {
+  swept : AreSwept l.fn.self.settings.times l.now_ms l.key l.fn.self.peers l.self.peers;
+  settings : l.self.settings ≡ l.fn.self.settings;
+}
