@@ -213,11 +213,7 @@ fn run_many<A: Allocator + Copy>(
 #[test]
 fn spans_that_are_too_many_change_nothing(rt: HostRuntime) -> Result<(), Fail> {
     assert_equal(&rt, run_many(rt.alloc(), 1_001)?, (false, (1, 0, 1)));
-    assert_equal(
-        &rt,
-        run_many(rt.alloc(), 1_000)?,
-        (true, (1_001, 1, 1_000)),
-    );
+    assert_equal(&rt, run_many(rt.alloc(), 1_000)?, (true, (1_001, 1, 1_000)));
     assert_equal(&rt, run_many(rt.alloc(), 999)?, (true, (1_000, 0, 1_000)));
     Ok(())
 }
