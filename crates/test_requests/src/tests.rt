@@ -10,7 +10,6 @@ mod kept_client;
 mod kept_side;
 mod probe;
 mod requests;
-mod sockets;
 mod spans;
 mod standard_cases;
 mod steps;
