@@ -5,7 +5,7 @@
 //! Each function is a group of examples. Its clauses are the examples, and it does nothing when it
 //! is called. A span of a store is a number here, which is also its size.
 
-ghost use Rattle.std.specs.Prelude.{◌≡◌, ◌+◌, ◌*◌, ◌∷◌, ◌++◌, [], ℕ, replicate, reverse};
+ghost use Rattle.std.specs.Prelude.{◌≡◌, ◌+◌, ◌*◌, ◌∷◌, ◌++◌, [], ℕ, false, replicate, reverse};
 ghost use Rattle.circular_buffer.specs.Buffer.{keep_last};
 ghost use Rattle.trace_store.specs.Requests.{and_trace, share_of};
 ghost use Rattle.trace_store.specs.Stores.{HasRoom};

@@ -101,7 +101,9 @@ where
 type Store = TraceStore<Arc<ViewSpan>, TraceDigest, RandomState, Global>;
 
 /// How many bytes a body may have, and what it means.
-fn max_body_of(args: &ViewArgs) -> usize {
+fn max_body_of(args: &ViewArgs) -> usize
+    ensures { result ≡ args.now.max_body }
+{
     usize::try_from(args.max_body).unwrap_or(usize::MAX)
 }
 
