@@ -1,11 +1,25 @@
 //! Works of a service that wait for each other.
 use crate::tests::equal::assert_equal;
 use crate::tests::fixture::{answered, config, names};
-use crate::tests::stage::comes_to;
 use batch_service::{Done, ServicePass, Work, serve};
 use std::sync::Wait;
 use std::sync::atomic::{AtomicU64, Ordering};
-use std::time::Clock;
+use std::thread;
+use std::time::{Clock, Duration};
+
+/// How often a wait looks, a millisecond apart.
+const LOOKS: u64 = 20_000;
+
+/// Whether a number comes to this one, in a wait of some twenty seconds at most.
+fn comes_to<R: Wait + Clock>(rt: &R, number: &AtomicU64, wanted: u64) -> bool {
+    for _ in 0..LOOKS {
+        if number.load(Ordering::SeqCst) == wanted {
+            return true;
+        }
+        thread::sleep(rt, Duration::from_millis(1));
+    }
+    false
+}
 
 /// Two works, each of which waits until the other has begun.
 #[derive(Drop)]
