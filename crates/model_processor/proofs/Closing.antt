@@ -31,6 +31,7 @@ use Rattle.model_processor.specs.AnyAccounts.{AnyAccount, pass, pass_account}
 use Rattle.model_processor.specs.AnyAccounts.{pass_accounts, processor, worker, worker_account}
 use Rattle.model_processor.specs.AnyAccounts.{worker_accounts}
 use Rattle.model_processor.specs.Kept.{Agrees, IsAccountOf, IsOf, KeepsFloor, Kept, accepted}
+use Rattle.model_processor.specs.Kept.{shown_out}
 use Rattle.model_processor.proofs.Holders.{first_set, new_passes, no_workers, of_passes}
 use Rattle.model_processor.proofs.Lists.{between-same}
 use Rattle.model_processor.proofs.Reasons.{all_lost, none_full, none_lost}
@@ -208,6 +209,8 @@ module _ (origin : Origin) (desk : Desk) (passes : List PassAccount) (w : Worker
   -- Where the worker's account is final, the processor has all that its clauses say.
   pub accounted : EndByWork origin w → IsAccounted origin desk passes w
   accounted e = record {
+    config = x.config;
+    none_out = x.agrees.batches.out ∙ ap shown_out e.none_out;
     spans = queued_are e.none_out;
     tickets = record {
       given = x.agrees.tickets;
@@ -225,6 +228,7 @@ module _ (origin : Origin) (desk : Desk) (passes : List PassAccount) (w : Worker
       by_work = e;
       numbered = x.agrees.batches.numbered;
       rising = x.agrees.queues.rising;
+      taken = x.agrees.batches.taken;
       handed = handed_are e.none_out;
       settled = x.agrees.batches.fates_are;
     };

@@ -1,5 +1,5 @@
 -- What the accounts of a batch processor say. (profile)
-use Rattle.std.specs.Prelude.{ℕ, Bool, true, false, List, [], ◌∷◌, ◌++◌, Option, Some, None}
+use Rattle.std.specs.Prelude.{ℕ, true, List, [], ◌∷◌, ◌++◌, Option, Some, None}
 use Rattle.model_desk.specs.Retries.{Outcome, Fate}
 use Rattle.model_span.specs.Spans.{SpanData}
 use Rattle.model_span.specs.Dropped.{Reason}
@@ -71,8 +71,3 @@ after_settle outcomes fate account = record account {
 -- all is drained
 abbrev pub after_drained : WorkerAccount → WorkerAccount
 after_drained account = record account { drained = true }
-
--- the worker leaves in this critical section if the flag says so
-abbrev pub left_if : Bool → WorkerAccount → WorkerAccount
-left_if false account = account
-left_if true account = after_left account

@@ -2,7 +2,7 @@
 -- final one say beside the queue that is left. (Trace SDK, Batching processor, ForceFlush,
 -- Shutdown; tickets, floors and the two ledgers: profile)
 use Rattle.std.specs.Prelude.{◌≡◌, ◌≢◌, ℕ, ◌≤◌, ◌&&◌, nat_le, nat_lt, true, false, List, [], ◌++◌}
-use Rattle.std.specs.Prelude.{length, map, count_by, IsPermutation}
+use Rattle.std.specs.Prelude.{length, map, count_by, IsPermutation, None}
 use Rattle.std.specs.List.{range_with_len, AllByRecursion}
 use Rattle.model_span.specs.Spans.{SpanData}
 use Rattle.model_span.specs.Dropped.{Reason, Entry, is_lost}
@@ -79,12 +79,13 @@ pub record LossesAreNamed (desk : Desk) (passes : List PassAccount) (worker : Wo
 
 -- All batches ended by work, but for one that was abandoned. They are numbered from 1 on, in order.
 -- Through all of them, and on to the spans that are left, the tickets rise. The totals count the
--- spans that were handed, and how the batches that were handed were settled.
+-- spans that were taken, those that were handed, and how the batches that were handed were settled.
 pub record BatchesAreSent (origin : Origin) (desk : Desk) (worker : WorkerAccount)
     : Type 0 where
   pub by_work : EndByWork origin worker
   pub numbered : numbers worker ≡ range_with_len 1 desk.batches
   pub rising : Rises (tickets_of (taken_spans worker ++ desk.waiting))
+  pub taken : desk.taken ≡ length (taken_spans worker)
   pub handed : desk.handed ≡ length (handed_spans worker)
   pub settled : desk.fates ≡ fate_counts (fates worker)
 
@@ -109,9 +110,12 @@ pub record FlushesAreKept (left : List SpanData) (passes : List PassAccount)
 
 -- ---- all seven
 
--- What holds of a processor with this origin, once its desk is taken out and all accounts are back.
+-- What holds of a processor with this origin, once its desk is taken out and all accounts are back:
+-- the seven, by the settings that it began with, and that no batch is out.
 pub record IsAccounted (origin : Origin) (desk : Desk) (passes : List PassAccount)
     (worker : WorkerAccount) : Type 0 where
+  pub config : desk.config ≡ origin.desk
+  pub none_out : desk.out ≡ None
   pub spans : QueuedAreAccounted desk.waiting passes worker
   pub tickets : TicketsAreGiven origin.desk.queue desk.next_ticket passes
   pub names : DropsAreNamed desk passes worker
