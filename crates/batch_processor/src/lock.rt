@@ -64,7 +64,7 @@ impl<J: Naming, A: Allocator + Copy> Lock<J, A> {
         };
         Lock {
             shared: Mutex::new(shared),
-            waits: Waits::new(),
+            waits: Waits::default(),
         }
     }
 }
@@ -299,11 +299,8 @@ fn settled_of<A: Allocator>(
 ) -> SettledBatch<A>
     ensures { result ≡ settled_batch (fate_view fate) batch }
 {
-    match loss_reason(fate) {
-        Some(_) => batch.into_settled(fate),
-        None => {
-            batch.clear_into(spent);
-            batch.into_settled(fate)
-        }
+    if loss_reason(fate).is_none() {
+        batch.clear_into(spent);
     }
+    batch.into_settled(fate)
 }

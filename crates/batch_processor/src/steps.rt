@@ -44,6 +44,7 @@ fn in_hand<A: Allocator>(batch: Batch<A>, sending: Option<Sending<A>>) -> InHand
 }
 
 /// All that a worker's pass has but the batch in hand.
+#[derive(Drop)]
 pub(crate) struct BatchSender<J: Naming, R, A: Allocator> {
     pub(crate) holder: Holder<J, R, A>,
     // The outcomes of the attempts of the batch in hand.
@@ -51,7 +52,6 @@ pub(crate) struct BatchSender<J: Naming, R, A: Allocator> {
     // Where the spans of a batch go that is settled.
     pub(crate) spent: Vec<SpanData<A>, A>,
     pub(crate) setup: Setup,
-    pub(crate) alloc: A,
 }
 
 impl<J: Naming, R, A: Allocator> Model for BatchSender<J, R, A> {
@@ -81,16 +81,6 @@ impl<J: Naming, R: Wait + time::Clock + Drop, A: Allocator + Copy> BatchSender<J
     {
         let batch = self.holder.take(now)?;
         Some(in_hand(batch, None))
-    }
-
-    /// Whether all is drained; if not, and no batch is due at this moment, it waits for a short
-    /// time, or until it is woken.
-    pub(crate) fn drained(&mut self, now: u64) -> bool
-        ensures yes { IsTrue result
-            → self.new ≡ record self.old { account = after_drained self.old.account } }
-        ensures no { result ≡ false → self.new ≡ self.old }
-    {
-        self.holder.drained(now)
     }
 
     /// Goes on with the batch in hand by a step: it is encoded, or its body is handed to the
@@ -134,7 +124,7 @@ impl<J: Naming, R: Wait + time::Clock + Drop, A: Allocator + Copy> BatchSender<J
         let config = self.setup.config;
         let (retry, max_body) = (config.retry, config.max_body);
         let (number, spans) = (batch.number(), batch.spans());
-        match Sending::prepare(self.alloc, number, spans, retry, max_body, exporter) {
+        match Sending::prepare(*self.outcomes.allocator(), number, spans, retry, max_body, exporter) {
             Ok(sending) => Some(in_hand(batch, Some(sending))),
             Err(fault) => {
                 self.holder.drop_batch(batch, fault.reason());
@@ -197,36 +187,20 @@ impl<J: Naming, R: Wait + Drop, A: Allocator + Copy> BatchSender<J, R, A> {
         } }
     {
         let InHand { batch, sending } = hand;
-        let Some(sending) = sending else {
+        if !sending.is_some_and(|sending| sending.is_sent()) {
             self.holder.drop_batch(batch, Reason::Abandoned);
             return;
-        };
-        if sending.is_sent() {
-            self.holder
-                .settle(batch, Fate::Abandoned, &self.outcomes, &mut self.spent);
-            self.outcomes.clear();
-            return;
         }
-        self.holder.drop_batch(batch, Reason::Abandoned);
-    }
-    /// Leaves, where no batch is in hand, and wakes waiting threads.
-    pub(crate) fn leave(&mut self)
-        ensures { self.new ≡ record self.old { account = after_left self.old.account } }
-    {
-        self.holder.leave();
+        self.holder
+            .settle(batch, Fate::Abandoned, &self.outcomes, &mut self.spent);
+        self.outcomes.clear();
     }
 
     /// The worker's place at the lock, where no batch is in hand.
     pub(crate) fn into_holder(self) -> Holder<J, R, A>
         ensures { result ≡ worker self.origin self.account }
     {
-        let BatchSender {
-            holder,
-            outcomes: _,
-            spent: _,
-            setup: _,
-            alloc: _,
-        } = self;
+        let BatchSender { holder, .. } = self;
         holder
     }
 }

@@ -196,3 +196,33 @@ where
 fn a_worker_that_is_let_go_leaves(rt: HostRuntime) {
     let_go::<Brand, HostRuntime>(rt, rt.alloc(), BatchBlank::new());
 }
+
+/// The counts and a flush are asked for on one pass, before and after a span ends on the other one.
+/// The worker has left, so a flush is answered at once: that all is flushed, or that it isn't.
+fn look_twice<J, R>(rt: R, alloc: Global, blank: BatchBlank)
+where
+    J: Naming,
+    R: Wait + Abort + Clock + Copy,
+    requires { blank ≡ J.name }
+{
+    let Parts {
+        processor,
+        mut passes,
+        worker,
+    } = make::<J, R, Global>(rt, alloc, blank, config(8, 4), 2, 0);
+    drop(worker);
+    let first = passes.first_mut().expect(&rt, "a pass");
+    assert_equal(&rt, first.totals().accepted, 0);
+    assert_equal(&rt, first.force_flush(), Ok(Flushed));
+    let last = passes.last_mut().expect(&rt, "a pass");
+    assert_equal(&rt, end(&rt, alloc, last), Ended::Queued(0));
+    let first = passes.first_mut().expect(&rt, "a pass");
+    assert_equal(&rt, first.totals().accepted, 1);
+    assert_equal(&rt, first.force_flush(), Err(WorkerLeft));
+    drop(processor);
+}
+
+#[test]
+fn a_pass_is_answered_by_what_another_one_did_meanwhile(rt: HostRuntime) {
+    look_twice::<Brand, HostRuntime>(rt, rt.alloc(), BatchBlank::new());
+}

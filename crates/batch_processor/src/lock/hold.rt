@@ -34,21 +34,13 @@ pub(super) struct After<T> {
 /// Where threads wait: the worker for a batch to fill, or for a flush or a shutdown; and flushes
 /// for a batch to end, or for the worker to leave. It can't take the lock. So a call that is handed
 /// a hold looks and waits in this very hold, and misses no wake-up.
-#[derive(Drop)]
+#[derive(Default, Drop)]
 pub(super) struct Waits {
     to_do: Condvar,
     done: Condvar,
 }
 
 impl Waits {
-    /// No thread waits yet.
-    pub(super) fn new() -> Waits {
-        Waits {
-            to_do: Condvar::new(),
-            done: Condvar::new(),
-        }
-    }
-
     /// Ends a hold, and wakes those that it wakes. What it answers is given once it is over.
     pub(super) fn end<J: Naming, A: Allocator, T>(
         &self,
