@@ -101,7 +101,7 @@ module _ (J : RattleType) (g : naming.Ghosts J.Denot) where
           heap.Vec-send Outcome.the_row outcome_send,
           (
             heap.Vec-send (SpanData.the_row Heap.the_row ghosts) data_send,
-            (setup_send, (as_row_send (row_field Heap.the_row) heap.send, tt)),
+            (setup_send, tt),
           ),
         ),
       )
