@@ -7,3 +7,4 @@ pub mod OtherRules
 pub mod TraceIds
 pub mod Shops
 pub mod LongKeys
+pub mod Contents

@@ -6,6 +6,7 @@
 //! - Requests with spans (`http_client`, `traced_http`): their texts, what their spans say, and the
 //!   queries of URLs without their secrets.
 //! - Settings, the texts of resource attributes and of headers (`otel_settings`).
+//! - What the bodies of posts to `trace-view` mean as bytes (`view_service`).
 //! - Sampling by a ratio (`otlp_sampler`): thresholds, trace ids and texts.
 //!
 //! Each function without an argument is a group of examples. Its clauses are the examples, and it
@@ -14,6 +15,7 @@
 
 pub mod chunks;
 pub mod client;
+pub mod contents;
 pub mod contexts;
 pub mod devices;
 pub mod fields;

@@ -1,7 +1,8 @@
--- Settings of retries, and what is asked of them.
+-- Settings of retries, and what is asked of them; and of processors.
 use Rattle.std.specs.Prelude.{ℕ, Some}
 use Rattle.model_desk.specs.Retries.{RetryAfter, later, no_reply, Next}
 use Rattle.model_desk.specs.Waits.{RetryConfig, next_after}
+use Rattle.batch_processor.specs.declared.config.BatchConfig.{BatchConfig}
 
 -- five attempts, waits of at most 1 second first and of at most 30 seconds
 abbrev pub usual : RetryConfig
@@ -18,3 +19,11 @@ silence attempt now word = next_after usual attempt no_reply now word
 -- what follows from the first attempt, at a moment, where its reply asks for a wait
 abbrev pub asked : RetryAfter → ℕ → Next
 asked wait now = next_after usual 1 (later 503 (Some wait)) now 0
+
+-- settings of a processor, whose queue and whose batch have room for so many spans
+abbrev pub sized : ℕ → ℕ → BatchConfig
+sized queue batch = record {
+  desk = record { queue = queue; batch = batch; delay_ms = 5000 };
+  retry = usual;
+  max_body = 65536;
+}

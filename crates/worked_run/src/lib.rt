@@ -1,6 +1,6 @@
 //! Worked examples of the models of queues, processors and whole runs (crates `model_desk`,
-//! `model_processor`, `model_run`; of batches on their way, `batch_sending`), with values that were
-//! written out by hand. The checker computes what the definitions make of each, and compares.
+//! `model_processor`, `model_run`; of batches on their way, `batch_sending`; of what keeps a service
+//! from being started, `batch_service`), with values that were written out by hand. The checker computes what the definitions make of each, and compares.
 //!
 //! Each function is a group of examples. Its clauses are the examples, and it does nothing when it
 //! is called.
@@ -18,6 +18,7 @@ pub mod ends;
 pub mod moments;
 pub mod passes;
 pub mod queues;
+pub mod refusals;
 pub mod retried;
 pub mod retries;
 pub mod sendings;
