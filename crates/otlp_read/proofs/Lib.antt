@@ -5,3 +5,4 @@ pub mod ValueViews
 pub mod PairValues
 pub mod TripleSteps
 pub mod TableSteps
+pub mod FieldSteps

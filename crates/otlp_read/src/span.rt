@@ -366,22 +366,29 @@ impl<'a, A: Allocator + Copy> GatherFields<'a> for SpanParts<'a, A> {
     ghost shown = { span_view };
 
     fn take(&mut self, field: Field<'a>) -> Result<(), ReadFault> {
-        self.trace_id = last_bytes(self.trace_id, field, 1);
-        self.span_id = last_bytes(self.span_id, field, 2);
-        self.trace_state = last_bytes(self.trace_state, field, 3);
-        self.parent_span_id = last_bytes(self.parent_span_id, field, 4);
-        self.name = last_bytes(self.name, field, 5);
-        self.kind = last_varint(self.kind, field, 6);
-        self.start_time_unix_nano = last_fixed64(self.start_time_unix_nano, field, 7);
-        self.end_time_unix_nano = last_fixed64(self.end_time_unix_nano, field, 8);
-        push_attribute(self.alloc, &mut self.attributes, field, 9)?;
-        self.dropped_attributes_count = last_varint(self.dropped_attributes_count, field, 10);
-        push_message(EventParts::new(self.alloc), &mut self.events, field, 11)?;
-        self.dropped_events_count = last_varint(self.dropped_events_count, field, 12);
-        push_message(LinkParts::new(self.alloc), &mut self.links, field, 13)?;
-        self.dropped_links_count = last_varint(self.dropped_links_count, field, 14);
-        self.status.take_in(field, 15)?;
-        self.flags = last_fixed32(self.flags, field, 16);
+        match field.number {
+            1 => self.trace_id = last_bytes(self.trace_id, field, 1),
+            2 => self.span_id = last_bytes(self.span_id, field, 2),
+            3 => self.trace_state = last_bytes(self.trace_state, field, 3),
+            4 => self.parent_span_id = last_bytes(self.parent_span_id, field, 4),
+            5 => self.name = last_bytes(self.name, field, 5),
+            6 => self.kind = last_varint(self.kind, field, 6),
+            7 => self.start_time_unix_nano = last_fixed64(self.start_time_unix_nano, field, 7),
+            8 => self.end_time_unix_nano = last_fixed64(self.end_time_unix_nano, field, 8),
+            9 => push_attribute(self.alloc, &mut self.attributes, field, 9)?,
+            10 => self.dropped_attributes_count = last_varint(
+                self.dropped_attributes_count,
+                field,
+                10,
+            ),
+            11 => push_message(EventParts::new(self.alloc), &mut self.events, field, 11)?,
+            12 => self.dropped_events_count = last_varint(self.dropped_events_count, field, 12),
+            13 => push_message(LinkParts::new(self.alloc), &mut self.links, field, 13)?,
+            14 => self.dropped_links_count = last_varint(self.dropped_links_count, field, 14),
+            15 => self.status.take_in(field, 15)?,
+            16 => self.flags = last_fixed32(self.flags, field, 16),
+            _ => {}
+        }
         Ok(())
     }
 
