@@ -8,6 +8,7 @@ pub mod Samplers
 pub mod Resources
 pub mod Endpoints
 pub mod Headers
+pub mod Methods
 pub mod Unsupported
 pub mod Settings
 pub mod SettingsView

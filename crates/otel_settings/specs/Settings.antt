@@ -1,5 +1,6 @@
 -- What the variables set, one by one. (OpenTelemetry Specification, Environment Variable
--- Specification; OTLP Specification, OTLP Exporter Configuration)
+-- Specification; OTLP Specification, OTLP Exporter Configuration; Semantic Conventions,
+-- http.request.method)
 use Rattle.std.specs.Prelude.{ℕ, ◌-◌, ◌^◌, ◌==◌, min, Bool, false, List, ◌++◌, Option, unwrap_or}
 use Rattle.std.specs.Prelude.{if◌then◌else◌}
 use Rattle.std.specs.Option.{option_or}
@@ -16,6 +17,7 @@ use Rattle.otel_settings.specs.Samplers.{sampler_of, sampler_faults}
 use Rattle.otel_settings.specs.Resources.{resource_of, resource_faults}
 use Rattle.otel_settings.specs.Endpoints.{target_of, target_faults}
 use Rattle.otel_settings.specs.Headers.{headers_of, header_faults, with_fields}
+use Rattle.otel_settings.specs.Methods.{methods_of, methods_faults}
 use Rattle.otel_settings.specs.Unsupported.{unsupported_faults}
 use Rattle.otel_settings.specs.Pairs.{Pairs, text_set}
 use Rattle.otel_settings.specs.Readings.{boolean, number_in}
@@ -160,6 +162,7 @@ pub record Settings : Type 0 where
   pub limits : spans.SpanLimits
   pub target : Address
   pub timeout_ms : ℕ
+  pub known_methods : List ℕ
   pub faults : List Fault
 
 -- the faults of one group of variables after the other, in the order of the variables
@@ -170,7 +173,7 @@ all_faults pairs =
     let export : List Fault = export_timeout_faults queue pairs in
     let sending : List Fault =
     timeout_faults (target_faults (limit_faults export pairs) pairs) pairs in
-    header_faults (unsupported_faults sending pairs) pairs
+    methods_faults (header_faults (unsupported_faults sending pairs) pairs) pairs
 
 -- What the names and values set, variable by variable. (Environment Variable Specification)
 unfoldable pub settings_of : Pairs → Settings
@@ -184,5 +187,6 @@ settings_of pairs = record {
   limits = limits_of pairs;
   target = with_fields (target_of pairs) (headers_of pairs);
   timeout_ms = timeout_of pairs;
+  known_methods = methods_of pairs;
   faults = all_faults pairs;
 }

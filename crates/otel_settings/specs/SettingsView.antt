@@ -18,5 +18,6 @@ settings_view s = record {
   limits = limits_view s.limits;
   target = s.target;
   timeout_ms = s.timeout_ms;
+  known_methods = string_bytes s.known_methods;
   faults = faults_view s.faults.items;
 }

@@ -1,5 +1,5 @@
 -- The names of the variables. (OpenTelemetry Specification, Environment Variable Specification;
--- OTLP Specification, OTLP Exporter Configuration)
+-- OTLP Specification, OTLP Exporter Configuration; Semantic Conventions, http.request.method)
 use Rattle.std.specs.Prelude.{ℕ, List, codes}
 use Rattle.otel_settings.specs.declared.variable.Variable.{Variable}
 use Rattle.otel_settings.specs.declared.variable.Variable.TheVariants as variables
@@ -40,3 +40,4 @@ name_of variables.OtlpClientCertificate = codes "OTEL_EXPORTER_OTLP_CLIENT_CERTI
 name_of variables.OtlpTracesClientCertificate = codes "OTEL_EXPORTER_OTLP_TRACES_CLIENT_CERTIFICATE"
 name_of variables.OtlpHeaders = codes "OTEL_EXPORTER_OTLP_HEADERS"
 name_of variables.OtlpTracesHeaders = codes "OTEL_EXPORTER_OTLP_TRACES_HEADERS"
+name_of variables.HttpKnownMethods = codes "OTEL_INSTRUMENTATION_HTTP_KNOWN_METHODS"

@@ -40,6 +40,8 @@ pub enum Instead {
     PlainHttp,
     /// Requests without these fields.
     NoHeaders,
+    /// The methods of RFC 9110 and `PATCH`.
+    StandardMethods,
 }
 
 impl fmt::Display for Instead {
@@ -59,6 +61,7 @@ impl fmt::Display for Instead {
             Instead::NoCompression => f.write_str("no compression"),
             Instead::PlainHttp => f.write_str("HTTP without TLS"),
             Instead::NoHeaders => f.write_str("a request without them"),
+            Instead::StandardMethods => f.write_str("the standard list"),
         }
     }
 }

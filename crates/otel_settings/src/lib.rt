@@ -23,6 +23,7 @@ mod environment;
 mod fault;
 mod headers;
 mod laws;
+mod methods;
 mod pair_texts;
 mod pairs;
 mod read;

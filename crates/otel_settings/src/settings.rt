@@ -11,6 +11,7 @@ ghost use Rattle.otel_settings.specs.SettingsView.{settings_view};
 use crate::endpoint::read_target;
 use crate::fault::{Instead, SettingFault};
 use crate::headers::read_headers;
+use crate::methods::read_methods;
 use crate::read::{read_boolean, read_number, read_text};
 use crate::resource::read_resource;
 use crate::sampler::{NamedSampler, read_sampler};
@@ -51,6 +52,9 @@ pub struct Settings<A: Allocator = Global> {
     /// How long a request to the collector may take, in milliseconds: 10,000 by default. 0 is no
     /// limit.
     pub timeout_ms: u32,
+    /// The methods of HTTP that spans are named by, with commas between them, as `KnownMethods` of
+    /// `traced_http` reads them: empty by default, which is the standard ones.
+    pub known_methods: String<A>,
     /// The values that can't be read, or that ask for what the kit doesn't have, in the order of
     /// [`Variable`].
     pub faults: Vec<SettingFault<A>, A>,
@@ -239,6 +243,7 @@ pub fn settings_of<A: Allocator + Copy>(
     let timeout_ms = read_timeout(alloc, &mut faults, pairs)?;
     note_unsupported(alloc, &mut faults, pairs)?;
     let headers = read_headers(alloc, &mut faults, pairs)?;
+    let known_methods = read_methods(alloc, &mut faults, pairs)?;
     Ok(Settings {
         disabled: disabled.unwrap_or(false),
         resource,
@@ -249,6 +254,7 @@ pub fn settings_of<A: Allocator + Copy>(
         limits,
         target: target.with_headers(headers),
         timeout_ms,
+        known_methods,
         faults,
     })
 }

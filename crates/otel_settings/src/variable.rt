@@ -6,8 +6,8 @@ ghost use Rattle.otel_settings.specs.Variables.{name_of};
 use std::fmt;
 
 /// A variable of the environment that a setting comes from (OpenTelemetry Specification,
-/// "Environment Variable Specification"; OTLP Specification, "OTLP Exporter Configuration"). Faults
-/// are listed in this order.
+/// "Environment Variable Specification"; OTLP Specification, "OTLP Exporter Configuration"; Semantic
+/// Conventions, "HTTP spans"). Faults are listed in this order.
 #[derive(Debug, Clone, Copy, PartialEq, Eq)]
 pub enum Variable {
     /// `OTEL_SDK_DISABLED`: whether tracing is off.
@@ -81,11 +81,14 @@ pub enum Variable {
     OtlpHeaders,
     /// `OTEL_EXPORTER_OTLP_TRACES_HEADERS`: those of each request with spans.
     OtlpTracesHeaders,
+    /// `OTEL_INSTRUMENTATION_HTTP_KNOWN_METHODS`: the methods of HTTP that spans are named by
+    /// (Semantic Conventions, "http.request.method").
+    HttpKnownMethods,
 }
 
 impl Variable {
     /// All of them, in the order in which their faults are listed.
-    pub const ALL: [Variable; 35] = [
+    pub const ALL: [Variable; 36] = [
         Variable::SdkDisabled,
         Variable::ResourceAttributes,
         Variable::ServiceName,
@@ -121,6 +124,7 @@ impl Variable {
         Variable::OtlpTracesClientCertificate,
         Variable::OtlpHeaders,
         Variable::OtlpTracesHeaders,
+        Variable::HttpKnownMethods,
     ];
 
     /// What its value is, in words, as a fault says it.
@@ -147,6 +151,7 @@ impl Variable {
             Variable::OtlpCompression | Variable::OtlpTracesCompression => {
                 "none, since nothing is compressed here"
             }
+            Variable::HttpKnownMethods => "a list of methods such as GET,QUERY",
             _ => "a whole number from 0 to 4294967295",
         }
     }
@@ -210,6 +215,7 @@ impl Variable {
             Variable::OtlpTracesClientCertificate => "OTEL_EXPORTER_OTLP_TRACES_CLIENT_CERTIFICATE",
             Variable::OtlpHeaders => "OTEL_EXPORTER_OTLP_HEADERS",
             Variable::OtlpTracesHeaders => "OTEL_EXPORTER_OTLP_TRACES_HEADERS",
+            Variable::HttpKnownMethods => "OTEL_INSTRUMENTATION_HTTP_KNOWN_METHODS",
         }
     }
 }

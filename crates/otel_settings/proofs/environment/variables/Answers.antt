@@ -10,7 +10,7 @@ loop-variable-init g c = λ name. rw c.new-all.ensures.items (nothing_read _ nam
 
 pub loop-variable-preserved : goal.loop-variable-preserved
 loop-variable-preserved g c =
-    let inside : c.loop-variable.variable-index < 35 = omega arith in
+    let inside : c.loop-variable.variable-index < 36 = omega arith in
     elim c.match-branch-2.branch [
       | in-Some+in_ok-push w ↦
           rw w.all-is
@@ -26,5 +26,5 @@ loop-variable-preserved g c =
 
 pub returns : goal.returns
 returns g c =
-    let past : c.loop-variable.variable-index ≡ 35 = omega arith in
+    let past : c.loop-variable.variable-index ≡ 36 = omega arith in
     all_are_read _ c.loop-variable.variable-index _ past c.loop-variable.invariant
