@@ -10,6 +10,7 @@ ghost use Rattle.otel_settings.specs.Resources.{resource_faults, resource_of};
 ghost use Rattle.model_span.specs.Attributes.{text};
 ghost use Rattle.otel_settings.specs.Samplers.{ratio, sampler, sampler_faults, sampler_of};
 ghost use Rattle.otel_settings.specs.Endpoints.{endpoint};
+ghost use Rattle.otel_settings.specs.Methods.{method_list};
 ghost use Rattle.otel_settings.specs.Unsupported.{form_faults, selection_faults};
 ghost use Rattle.otel_settings.specs.Unsupported.{tls_faults};
 ghost use Rattle.otel_settings.specs.Settings.{desk_of, desk_faults};
@@ -126,6 +127,15 @@ pub fn resources()
           instead = instead.NoAttributes;
           cause = None;
         } ∷ [] }
+{}
+
+/// Lists of methods: blanks and empty members don't count, and each other member is a token.
+#[tactic(auto, unfolding(otel_settings::specs::Methods::method_list, otel_settings::specs::Methods::is_method_or_nothing, httparse::specs::Grammar::trim_ows, httparse::specs::Grammar::is_token_byte))]
+pub fn method_lists()
+    ensures two { method_list (codes "GET,QUERY") ≡ Some (codes "GET,QUERY") }
+    ensures blanks { method_list (codes " GET ,,") ≡ Some (codes " GET ,,") }
+    ensures two_words { method_list (codes "GET POST") ≡ None }
+    ensures not_text { method_list (0xef ∷ 0xbf ∷ 0xbd ∷ []) ≡ None }
 {}
 
 /// URLs of collectors: the standard's examples, and some that can't be read.

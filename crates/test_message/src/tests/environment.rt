@@ -92,8 +92,9 @@ fn settings_with(rt: &impl Abort, alloc: Global, name: &'static str) -> Settings
 }
 
 /// The names of the variables, by hand (Environment Variable Specification; OTLP Exporter
-/// Configuration), in the order of their faults; without that of the service's name.
-const NAMES: [&str; 34] = [
+/// Configuration; Semantic Conventions, "http.request.method"), in the order of their faults; without
+/// that of the service's name.
+const NAMES: [&str; 35] = [
     "OTEL_SDK_DISABLED",
     "OTEL_RESOURCE_ATTRIBUTES",
     "OTEL_TRACES_SAMPLER",
@@ -128,6 +129,7 @@ const NAMES: [&str; 34] = [
     "OTEL_EXPORTER_OTLP_TRACES_CLIENT_CERTIFICATE",
     "OTEL_EXPORTER_OTLP_HEADERS",
     "OTEL_EXPORTER_OTLP_TRACES_HEADERS",
+    "OTEL_INSTRUMENTATION_HTTP_KNOWN_METHODS",
 ];
 
 /// Asserts that the one fault of settings is of the variable with this name.

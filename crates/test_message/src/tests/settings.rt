@@ -11,7 +11,7 @@ use std::process::Abort;
 use test_support::FailingAllocator;
 
 /// All that can be set, with two bad values.
-const PAIRS: [(&str, &str); 16] = [
+const PAIRS: [(&str, &str); 17] = [
     ("OTEL_SDK_DISABLED", "TRUE"),
     (
         "OTEL_RESOURCE_ATTRIBUTES",
@@ -30,6 +30,7 @@ const PAIRS: [(&str, &str); 16] = [
     ("OTEL_EXPORTER_OTLP_TIMEOUT", "2500"),
     ("OTEL_EXPORTER_OTLP_TRACES_TIMEOUT", ""),
     ("OTEL_EXPORTER_OTLP_HEADERS", "api-key=a,b=c"),
+    ("OTEL_INSTRUMENTATION_HTTP_KNOWN_METHODS", "GET, query,"),
     ("OTHER", "1"),
 ];
 
@@ -75,6 +76,7 @@ fn assert_set<A: Allocator>(rt: &impl Abort, settings: &Settings<A>) {
     assert_equal(rt, limits.max_events_per_span, 7);
     assert_equal(rt, limits.max_attribute_value_length, Some(9));
     assert_equal(rt, settings.target.headers().len(), 2);
+    assert_equal(rt, settings.known_methods.as_str(), "GET, query,");
 }
 
 /// Compares where the spans go.
@@ -174,6 +176,11 @@ fn each_bad_value_is_one_fault_that_says_what_is_used(rt: HostRuntime) {
             "OTEL_EXPORTER_OTLP_COMPRESSION",
             "gzip",
             "none, since nothing is compressed here: no compression",
+        ),
+        (
+            "OTEL_INSTRUMENTATION_HTTP_KNOWN_METHODS",
+            "GET POST",
+            "a list of methods such as GET,QUERY: the standard list",
         ),
     ] {
         let settings = settings(&rt, rt.alloc(), &[(name, value)]);

@@ -410,6 +410,8 @@ fn a_watch_shows_what_the_last_attempt_met_that_failed(rt: HostRuntime) {
         assert_attempt(&rt, &mut exporter, *attempt, *wanted);
         let found = watched_text(&rt, alloc, &watch);
         assert_equal(&rt, found.as_str(), *text);
+        let again = watched_text(&rt, alloc, &watch);
+        assert_equal(&rt, again.as_str(), *text);
         let kept = failure_text(&rt, alloc, exporter.exporter());
         assert_equal(&rt, kept.as_str(), *text);
     }
