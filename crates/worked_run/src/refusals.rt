@@ -1,7 +1,7 @@
 //! Which settings of its queue, and which numbers of threads, keep a service from being started
 //! (profile).
 
-ghost use Rattle.std.specs.Prelude.{◌≡◌, ¬, ◌×◌, None, Some, Ok, Err};
+ghost use Rattle.std.specs.Prelude.{◌≡◌, ℕ, None, Some, Ok, Err};
 ghost use Rattle.batch_service.specs.Refusals.{Answers, IsOfSystem, refusal_of};
 ghost use Rattle.batch_service.specs.declared.fault.StartFault.TheVariants as starts;
 ghost use Rattle.worked_run.specs.Settings.{sized};
@@ -22,9 +22,9 @@ pub fn refusals()
 
 /// What such a service is answered, and one whose settings are good.
 pub fn answers()
-    ensures refused { Answers (Some starts.ZeroSize) (Err starts.ZeroSize) }
-    ensures another { ¬ (Answers (Some starts.ZeroSize) (Err starts.NoThread)) }
-    ensures started { Answers None (Ok 0) }
+    ensures refused { Answers {T = ℕ} (Some starts.ZeroSize) (Err starts.ZeroSize) }
+    ensures another { ¬ (Answers {T = ℕ} (Some starts.ZeroSize) (Err starts.NoThread)) }
+    ensures started { Answers {T = ℕ} None (Ok 0) }
     ensures no_thread { IsOfSystem starts.NoThread }
     ensures no_bytes { IsOfSystem starts.NoRandomBytes }
     ensures no_memory { IsOfSystem starts.OutOfMemory }
