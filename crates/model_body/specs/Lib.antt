@@ -1,0 +1,5 @@
+pub mod Names
+pub mod Histories
+pub mod Desks
+pub mod Laws
+pub mod Examples
