@@ -18,7 +18,7 @@ quick: docs ## The documents, and tests and programs before their proofs (some m
 
 # The documents, every proof from nothing, wrong bodies (those that this commit chooses), tests,
 # programs, stored runs, hostile bodies, and what must not compile.
-test: docs ## The gate: every proof from nothing, wrong bodies, tests and runs (tens of minutes)
+test: docs ## The gate: every proof from nothing, wrong bodies, tests and runs (an hour or more on four processors)
 	rt ci
 	tools/lib-test
 	tools/wrong-bodies
@@ -34,7 +34,7 @@ test: docs ## The gate: every proof from nothing, wrong bodies, tests and runs (
 	tools/hostile-bodies
 	tools/wont-compile
 
-audit: ## All wrong bodies, after make test; before each version (half an hour)
+audit: ## All wrong bodies, after make test; before each version (75 processor minutes)
 	tools/wrong-bodies --all
 
 docs: ## Compare the documents with the sources, and write out/DEFINITIONS.md and out/PROMISES.md

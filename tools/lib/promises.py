@@ -5,6 +5,8 @@ calls that carry it, a colon, and what holds, with the clauses' names in bracket
 """
 import re
 
+from lib.crates import below
+
 PAGE, TABLE = "out/PROMISES.md", "docs/PROMISES.md"
 FRONT = r"`[\w:]+`(?:, `[\w:]+`)*"
 HEAD = f"""# All promises
@@ -35,19 +37,30 @@ def lines_of(top, crate):
             yield heading, None, line
 
 
+# What a crate may do whose sources have one of these words.
+REACHES = {
+    "open sockets": "Net|TcpListener|TcpStream|TcpDial|HttpExporter",
+    "start threads": "Threads",
+}
+
+
+def has_word(folder, words):
+    """Whether a source below the folder has one of the words, comments and contracts left out."""
+    texts = (it.read_text(encoding="utf-8") for it in folder.rglob("*.rt"))
+    return any(re.search(rf"\b({words})\b", re.sub(r"//.*|\bghost use .*", "", it)) for it in texts)
+
+
 def trusted_of(top, uses):
-    """The ported crates that are used, and the crates that may open sockets or start threads."""
+    """The ported crates that are used, and the crates that may open sockets or start threads: those
+    whose sources say so, and the programs over them."""
     ported = sorted({it for names in uses.values() for it in names} - {*uses})
     found = [f"- Ported crates: {', '.join(f'`{it}`' for it in ported)}."]
-    for word, does in (("Net", "open sockets"), ("Threads", "start threads")):
-        some = [
-            crate for crate in uses
-            if any(
-                re.search(rf"\b{word}\b", re.sub(r"//.*|\bghost use .*", "", it.read_text(encoding="utf-8")))
-                for it in (top / "crates" / crate / "src").rglob("*.rt")
-            )
-        ]
-        found.append(f"- Crates that may {does}: {', '.join(f'`{it}`' for it in some)}.")
+    for does, words in REACHES.items():
+        some = {it for it in uses if has_word(top / "crates" / it / "src", words)}
+        programs = {it for it in uses if (top / "crates" / it / "src" / "main.rt").exists()}
+        some |= {it for it in programs if some.intersection(below(uses, it))}
+        names = ", ".join(f"`{it}`" for it in uses if it in some)
+        found.append(f"- Crates that may {does}: {names}.")
     return found
 
 

@@ -29,7 +29,7 @@ use crate::named::{NamedBatch, name_span};
 use crate::settled::{SettledBatch, loss_reason};
 use crate::totals::{FateCounts, Totals};
 use drop_ledger::{DropCounts, Ledger};
-use otlp_span::{Entry, Reason, SpanData, SpanRemains};
+use otlp_span::{Entry, Reason, Slip, SpanData, SpanRemains};
 use retry_core::Fate;
 use span_ring::{RingFault, SpanRing};
 use std::alloc::{Allocator, Global};
@@ -437,7 +437,20 @@ impl<A: Allocator> Desk<A> {
         ensures desk { self.new ≡ record self.old { ledger = drop 1 self.old.ledger } }
         ensures history { Does events.popped self.old self.new }
     {
-        self.ledger.pop()
+        let (entry, _slip) = self.pop_entry_slip()?;
+        Some(entry)
+    }
+
+    /// As [`Desk::pop_entry`], with the slip that the entry was on: its memory is freed where it is
+    /// dropped, as once a lock is given back.
+    pub fn pop_entry_slip(&mut self) -> Option<(Entry, Slip<A>)>
+        ensures newest { option_map (λ popped. entry_view popped.0) result
+            ≡ slice_get self.old.ledger 0 }
+        ensures slip { IfSome result (λ popped. popped.1 ≡ entry_view popped.0 ∷ []) }
+        ensures desk { self.new ≡ record self.old { ledger = drop 1 self.old.ledger } }
+        ensures history { Does events.popped self.old self.new }
+    {
+        self.ledger.pop_slip()
     }
 
     /// The names of the dropped spans, but for those that were popped.
@@ -453,7 +466,20 @@ impl<A: Allocator> Desk<A> {
         ensures desk { self.new ≡ record self.old { lost = drop 1 self.old.lost } }
         ensures history { Does events.popped_lost self.old self.new }
     {
-        self.lost.pop()
+        let (entry, _slip) = self.pop_lost_slip()?;
+        Some(entry)
+    }
+
+    /// As [`Desk::pop_lost`], with the slip that the entry was on: its memory is freed where it is
+    /// dropped, as once a lock is given back.
+    pub fn pop_lost_slip(&mut self) -> Option<(Entry, Slip<A>)>
+        ensures newest { option_map (λ popped. entry_view popped.0) result
+            ≡ slice_get self.old.lost 0 }
+        ensures slip { IfSome result (λ popped. popped.1 ≡ entry_view popped.0 ∷ []) }
+        ensures desk { self.new ≡ record self.old { lost = drop 1 self.old.lost } }
+        ensures history { Does events.popped_lost self.old self.new }
+    {
+        self.lost.pop_slip()
     }
 
     /// The names of the lost spans, but for those that were popped: of each batch that was handed

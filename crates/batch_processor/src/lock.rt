@@ -156,7 +156,8 @@ impl<J: Naming, R: Wait, A: Allocator + Copy> Holder<J, R, A> {
         requires { self.old ≡ pass (account_in self.old) }
         ensures { PopsBy after_pop self.old result self.new }
     {
-        self.lock.shared.lock(&self.rt).pop_entry(&mut self.account)
+        let popped = self.lock.shared.lock(&self.rt).pop_entry(&mut self.account);
+        Some(popped?.0)
     }
 
     /// A pass pops an entry of the ledger of lost spans.
@@ -164,7 +165,8 @@ impl<J: Naming, R: Wait, A: Allocator + Copy> Holder<J, R, A> {
         requires { self.old ≡ pass (account_in self.old) }
         ensures { PopsBy after_pop_lost self.old result self.new }
     {
-        self.lock.shared.lock(&self.rt).pop_lost(&mut self.account)
+        let popped = self.lock.shared.lock(&self.rt).pop_lost(&mut self.account);
+        Some(popped?.0)
     }
 
     /// A pass drains both ledgers. All names are handed out, the newest first.

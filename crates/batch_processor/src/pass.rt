@@ -131,10 +131,8 @@ impl<J: Naming, R: Wait, A: Allocator + Copy> EndPass<SpanData<A>> for Pass<J, R
     /// it on its own slip: `Dropped`, as `QueueFull`. After a shutdown it is only counted: `Late`.
     /// No memory is taken. (profile: tickets, the ledger, late spans)
     fn admit(&mut self, span: SpanData<A>) -> Ended {
-        let (answer, remains, spent) = self.holder.admit(span);
         // A span that doesn't wait is freed here, without the lock, and so is one that was sent.
-        drop(remains);
-        drop(spent);
+        let (answer, _remains, _spent) = self.holder.admit(span);
         answer
     }
 }

@@ -2,7 +2,7 @@
 //! its outcome, sent again or settled.
 ghost use Rattle.std.specs.Prelude.{◌≡◌, [], IsTrue, Some, None, false};
 ghost use Rattle.model_processor.specs.WorkerClauses.{abandon};
-ghost use Rattle.model_processor.specs.AnyAccounts.{after_drained, after_left, worker};
+ghost use Rattle.model_processor.specs.AnyAccounts.{worker};
 ghost use Rattle.batch_processor.specs.Working.{IsReady, IsWorkingWith, StepsAside, TakesStep};
 ghost use Rattle.batch_processor.specs.Working.{begun, hand_at, in_hand, is_pending_in, work_in};
 
@@ -83,16 +83,6 @@ impl<J: Naming, R: Wait + time::Clock + Drop, A: Allocator + Copy> BatchSender<J
         Some(in_hand(batch, None))
     }
 
-    /// Whether all is drained; if not, and no batch is due at this moment, it waits for a short
-    /// time, or until it is woken.
-    pub(crate) fn drained(&mut self, now: u64) -> bool
-        ensures yes { IsTrue result
-            → self.new ≡ record self.old { account = after_drained self.old.account } }
-        ensures no { result ≡ false → self.new ≡ self.old }
-    {
-        self.holder.drained(now)
-    }
-
     /// Goes on with the batch in hand by a step: it is encoded, or its body is handed to the
     /// exporter, if it is time, or the outcome that came is judged. None is left in hand once it is
     /// settled.
@@ -131,17 +121,10 @@ impl<J: Naming, R: Wait + time::Clock + Drop, A: Allocator + Copy> BatchSender<J
         ensures { TakesStep (E.handed exporter.old) (E.handed exporter.new) (E.room exporter.new)
             self.old (hand_at batch None) self.new result }
     {
-        let config = self.setup.config;
+        let (alloc, config) = (*self.outcomes.allocator(), self.setup.config);
         let (retry, max_body) = (config.retry, config.max_body);
         let (number, spans) = (batch.number(), batch.spans());
-        match Sending::prepare(
-            *self.outcomes.allocator(),
-            number,
-            spans,
-            retry,
-            max_body,
-            exporter,
-        ) {
+        match Sending::prepare(alloc, number, spans, retry, max_body, exporter) {
             Ok(sending) => Some(in_hand(batch, Some(sending))),
             Err(fault) => {
                 self.holder.drop_batch(batch, fault.reason());
@@ -211,13 +194,6 @@ impl<J: Naming, R: Wait + Drop, A: Allocator + Copy> BatchSender<J, R, A> {
         self.holder
             .settle(batch, Fate::Abandoned, &self.outcomes, &mut self.spent);
         self.outcomes.clear();
-    }
-
-    /// Leaves, where no batch is in hand, and wakes waiting threads.
-    pub(crate) fn leave(&mut self)
-        ensures { self.new ≡ record self.old { account = after_left self.old.account } }
-    {
-        self.holder.leave();
     }
 
     /// The worker's place at the lock, where no batch is in hand.

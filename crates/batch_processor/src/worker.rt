@@ -111,7 +111,7 @@ impl<J: Naming, R: Wait + time::Clock + Drop, A: Allocator + Copy> WorkerPass<J,
         let Some(hand) = self.in_hand.take() else {
             let now = clock.now();
             let Some(hand) = self.sender.take(now) else {
-                return self.sender.drained(now);
+                return self.sender.holder.drained(now);
             };
             keep(&mut self.in_hand, Some(hand));
             return false;
@@ -194,11 +194,11 @@ impl<J: Naming, R: Wait + Drop, A: Allocator + Copy> WorkerPass<J, R, A> {
         }
         self.left = true;
         let Some(hand) = self.in_hand.take() else {
-            self.sender.leave();
+            self.sender.holder.leave();
             return;
         };
         self.sender.abandon(hand);
-        self.sender.leave();
+        self.sender.holder.leave();
     }
 
     /// Abandons the batch in hand, if there is one, as `leave` does.

@@ -3,7 +3,7 @@ use Rattle.std.proofs.Common.{◌≡◌, refl, sym, ap, subst, ◌∙◌, Option
 use Rattle.std.proofs.Common.{◌+◌, ◌<◌, ◌≤◌, ◌^◌, List, [], ◌∷◌, ◌++◌, drop, length, Bool, true}
 use Rattle.std.proofs.Common.{false, cond, arith}
 use Rattle.std.proofs.lemmas.Bool.{false≢true}
-use Rattle.std.specs.Prelude.{reverse}
+use Rattle.std.specs.Prelude.{reverse, slice_get}
 use Rattle.std.proofs.lemmas.List.Sums.{count_by-le-length, sum_by-append, sum_by-cons}
 use Rattle.std.proofs.lemmas.List.Sorted.{IsPermutation-reverse, sum_by-IsPermutation}
 use Rattle.std.proofs.lemmas.List.{length-append, length-reverse}
@@ -95,6 +95,12 @@ pushed newest len counts after e named h counted linked =
           subst (λ k. IsTally k (e ∷ entries_of newest)) (sym counted)
           (tally-more (drop_counts_view counts) e (entries_of newest) h.tally);
     })
+
+-- A chain of which this name is the newest, and these are the others.
+pub newest_first : (chain others : List Entry) (e : Entry) → Some e ≡ slice_get chain 0
+    → others ≡ drop 1 chain → chain ≡ e ∷ others
+newest_first [] others e is rest = cc
+newest_first (x ∷ xs) others e is rest = cc
 
 -- A ledger is right after a pop.
 pub popped : (newest below : Option (List Entry)) (slip : List Entry) (len : ℕ)

@@ -136,12 +136,24 @@ impl<A: Allocator> Ledger<A> {
         ensures none { IfNone result (self.old ≡ []) }
         ensures unchanged { IfNone result (self.new ≡ []) }
     {
-        let slip = self.newest.take()?;
-        let (entry, below) = slip.unlink();
-        self.newest = below;
+        let (entry, _slip) = self.pop_slip()?;
+        Some(entry)
+    }
+
+    /// Takes the name out that was pushed last, if there is one, with its slip. No memory is freed:
+    /// the slip's is where it is dropped, as once a lock is given back.
+    pub fn pop_slip(&mut self) -> Option<(Entry, Slip<A>)>
+        ensures some { IfSome result (λ popped. self.old ≡ entry_view popped.0 ∷ self.new) }
+        ensures slip { IfSome result (λ popped. popped.1 ≡ entry_view popped.0 ∷ []) }
+        ensures none { IfNone result (self.old ≡ []) }
+        ensures unchanged { IfNone result (self.new ≡ []) }
+    {
+        let mut slip = self.newest.take()?;
+        let entry = *slip.newest()?;
+        self.newest = slip.relink(None);
         self.len -= 1;
         self.counts.remove(entry.reason);
-        Some(entry)
+        Some((entry, slip))
     }
 }
 

@@ -37,6 +37,7 @@ are_all variables.SdkDisabled = refl
 are_all _ = refl
 
 module _ (gives : List ℕ → Option (List ℕ) → Type 0) where
+  -- Before any variable is asked for, nothing is read of any name.
   pub nothing_read : (name : List ℕ) → IsRead gives [] [] name
   nothing_read name = not_yet (sym (none_yet name)) refl
 
@@ -79,6 +80,7 @@ module _ (gives : List ℕ → Option (List ℕ) → Type 0) where
             ]
       ]
 
+  -- The pairs are those of one variable more, which has no value.
   pub none_is_read : (variables : List Variable) {A : Type 0} (all : List (Bor (List ℕ) × String A))
       (i : ℕ) (d : Variable) (n : List ℕ) (value : Option (String A))
       → i < length variables → n ≡ name_of (get_or variables i d)
@@ -91,6 +93,7 @@ module _ (gives : List ℕ → Option (List ℕ) → Type 0) where
       (subst (λ v. gives n (option_map string_bytes v)) is had))
       name (before name)
 
+  -- The pairs, with one more, are those of one variable more, which has this value.
   pub some_is_read : (variables : List Variable) {A : Type 0}
       (all all' : List (Bor (List ℕ) × String A)) (i : ℕ) (d : Variable) (n : Bor (List ℕ))
       (value : Option (String A)) (text : String A)

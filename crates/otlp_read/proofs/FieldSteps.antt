@@ -52,7 +52,8 @@ lacks-all : (k : ℕ) (t : Table) → lacks k t ≡ true → Others k t
 lacks-all k end e = tt
 lacks-all k (n ⦂ s ◂ t) e = go (k == n) refl e (lacks-all k t)
   where
-    go : (b : Bool) → (k == n) ≡ b → cond b false (lacks k t) ≡ true → (lacks k t ≡ true → Others k t)
+    go : (b : Bool) → (k == n) ≡ b → cond b false (lacks k t) ≡ true
+        → (lacks k t ≡ true → Others k t)
         → Others k (n ⦂ s ◂ t)
     go true same e rest = absurd (grind (arith, e))
     go false other e rest = (eqb-false k n other, rest e)

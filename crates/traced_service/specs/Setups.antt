@@ -15,8 +15,7 @@ abbrev pub sampler_of : Bool → NamedSampler → NamedSampler
 sampler_of is_off sampler = if is_off then record sampler { name = AlwaysOff } else sampler
 
 -- a service's setup: what its spans are made with, how they wait, where they go, in which time,
--- what
--- of the settings can't be used, and whether tracing is off
+-- what of the settings can't be used, and whether tracing is off
 pub record Setup : Type 0 where
   pub provider : ProviderWith NamedSampler
   pub queue : DeskConfig

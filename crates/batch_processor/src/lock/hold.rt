@@ -13,8 +13,7 @@ use account_book::Naming;
 use batch_desk::Mark;
 use std::alloc::Allocator;
 use std::sync::{Condvar, MutexGuard, Wait};
-use std::time;
-use std::time::Duration;
+use std::time::{self, Duration};
 
 /// What is to be woken: the worker, which waits for something to do, and flushes, which wait for
 /// batches to end or for the worker to leave.

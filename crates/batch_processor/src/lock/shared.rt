@@ -1,7 +1,7 @@
 //! What threads share, with their accounts. Each call is what is done in one hold of the lock.
 ghost use Rattle.std.specs.Prelude.{◌≡◌, ◌≤◌, ◌&&◌, ◌||◌, not, vec_len, true, false, None, [], ◌++◌};
 ghost use Rattle.std.specs.Prelude.{drop, IfSome, IfNone, IsPermutation, IsTrue, is_none, is_some};
-ghost use Rattle.std.specs.Prelude.{option_to_list, reverse};
+ghost use Rattle.std.specs.Prelude.{option_map, option_to_list, reverse};
 ghost use Rattle.model_desk.specs.Desks.{is_due};
 ghost use Rattle.batch_desk.specs.Desk.{admission, after_admission, after_loss, after_names};
 ghost use Rattle.batch_desk.specs.Desk.{is_queued};
@@ -25,7 +25,7 @@ use crate::fault::WorkerLeft;
 use crate::pass::{Flushed, Pass};
 use account_book::{Book, Naming};
 use batch_desk::{Admitted, Batch, Desk, DrainedNames, Mark, NamedBatch, SettledBatch, Totals};
-use otlp_span::{Entry, Reason, SpanData, SpanRemains};
+use otlp_span::{Entry, Reason, Slip, SpanData, SpanRemains};
 use processor_account::{
     Drains, Drops, Ends, Flushes, Hands, Leaves, Pops, PopsAll, PopsLost, Settled, Settles,
     ShutsDown, SpanEnded, Takes, ToldFlushed, ToldLeft,
@@ -210,30 +210,31 @@ impl<J: Naming, A: Allocator + Copy> Shared<J, A> {
         self.desk.totals()
     }
 
-    /// A pass pops an entry of the ledger.
-    pub(super) fn pop_entry(&mut self, account: &mut Account<J>) -> Option<Entry>
+    /// A pass pops an entry of the ledger. It is handed out with its slip.
+    pub(super) fn pop_entry(&mut self, account: &mut Account<J>) -> Option<(Entry, Slip<A>)>
         requires { account.old ≡ pass (account_in account.old) }
-        ensures account { PopsBy after_pop account.old result account.new }
+        ensures account { PopsBy after_pop account.old (option_map (λ p. p.0) result) account.new }
         ensures desk { self.new ≡ record self.old {
           desk = record self.old.desk { ledger = drop 1 self.old.desk.ledger };
         } }
     {
-        let entry = self.desk.pop_entry()?;
+        let (entry, slip) = self.desk.pop_entry_slip()?;
         self.book.record::<Entry, Pops>(account, &entry);
-        Some(entry)
+        Some((entry, slip))
     }
 
-    /// A pass pops an entry of the ledger of lost spans.
-    pub(super) fn pop_lost(&mut self, account: &mut Account<J>) -> Option<Entry>
+    /// A pass pops an entry of the ledger of lost spans. It is handed out with its slip.
+    pub(super) fn pop_lost(&mut self, account: &mut Account<J>) -> Option<(Entry, Slip<A>)>
         requires { account.old ≡ pass (account_in account.old) }
-        ensures account { PopsBy after_pop_lost account.old result account.new }
+        ensures account { PopsBy after_pop_lost
+            account.old (option_map (λ p. p.0) result) account.new }
         ensures desk { self.new ≡ record self.old {
           desk = record self.old.desk { lost = drop 1 self.old.desk.lost };
         } }
     {
-        let entry = self.desk.pop_lost()?;
+        let (entry, slip) = self.desk.pop_lost_slip()?;
         self.book.record::<Entry, PopsLost>(account, &entry);
-        Some(entry)
+        Some((entry, slip))
     }
 
     /// A pass drains both ledgers. However many names there are, none is looked at in the hold.

@@ -6,7 +6,8 @@ use Rattle.otlp_read.proofs.TableSteps.{take-fails}
 use Rattle.otlp_read.proofs.FieldSteps.{gathers-at, others-stay}
 use Rattle.otlp_read.proofs.span.SpanPartsGatherFields.take.Goals as goal
 
-pub returns-in_err-push_attribute-in-9-clause-err : goal.returns-in_err-push_attribute-in-9-clause-err
+pub returns-in_err-push_attribute-in-9-clause-err :
+    goal.returns-in_err-push_attribute-in-9-clause-err
 returns-in_err-push_attribute-in-9-clause-err g c =
     take-fails 8 Tables.span refl (field_of c.args.field) c.in_err-push_attribute-in-9.ensures.err
     (grind arith)
@@ -64,47 +65,56 @@ returns-in-7-clause-ok g c =
 pub returns-in-8-clause-ok : goal.returns-in-8-clause-ok
 returns-in-8-clause-ok g c =
     gathers-at 7 Tables.span 8 _ _ (field_of c.args.field) c.in-8.is refl
-    (refl ▸ refl ▸ refl ▸ refl ▸ refl ▸ refl ▸ refl ▸ (c.last_fixed64-self-in-8.ensures fixed64 refl) ▸ refl)
+    (refl ▸ refl ▸ refl ▸ refl ▸ refl ▸ refl ▸ refl
+    ▸ (c.last_fixed64-self-in-8.ensures fixed64 refl) ▸ refl)
 
 pub returns-in_ok-push_attribute-in-9-clause-ok : goal.returns-in_ok-push_attribute-in-9-clause-ok
 returns-in_ok-push_attribute-in-9-clause-ok g c =
     gathers-at 8 Tables.span 9 _ _ (field_of c.args.field) c.in-9.is refl
-    (refl ▸ refl ▸ refl ▸ refl ▸ refl ▸ refl ▸ refl ▸ refl ▸ c.in_ok-push_attribute-in-9.ensures.ok ▸ refl)
+    (refl ▸ refl ▸ refl ▸ refl ▸ refl ▸ refl ▸ refl ▸ refl ▸ c.in_ok-push_attribute-in-9.ensures.ok
+    ▸ refl)
 
 pub returns-in-10-clause-ok : goal.returns-in-10-clause-ok
 returns-in-10-clause-ok g c =
     gathers-at 9 Tables.span 10 _ _ (field_of c.args.field) c.in-10.is refl
-    (refl ▸ refl ▸ refl ▸ refl ▸ refl ▸ refl ▸ refl ▸ refl ▸ refl ▸ (c.last_varint-self-in-10.ensures uint32 refl) ▸ refl)
+    (refl ▸ refl ▸ refl ▸ refl ▸ refl ▸ refl ▸ refl ▸ refl ▸ refl
+    ▸ (c.last_varint-self-in-10.ensures uint32 refl) ▸ refl)
 
 pub returns-in_ok-push_message-in-11-clause-ok : goal.returns-in_ok-push_message-in-11-clause-ok
 returns-in_ok-push_message-in-11-clause-ok g c =
     gathers-at 10 Tables.span 11 _ _ (field_of c.args.field) c.in-11.is refl
-    (refl ▸ refl ▸ refl ▸ refl ▸ refl ▸ refl ▸ refl ▸ refl ▸ refl ▸ refl ▸ c.in_ok-push_message-in-11.ensures.ok ▸ refl)
+    (refl ▸ refl ▸ refl ▸ refl ▸ refl ▸ refl ▸ refl ▸ refl ▸ refl ▸ refl
+    ▸ c.in_ok-push_message-in-11.ensures.ok ▸ refl)
 
 pub returns-in-12-clause-ok : goal.returns-in-12-clause-ok
 returns-in-12-clause-ok g c =
     gathers-at 11 Tables.span 12 _ _ (field_of c.args.field) c.in-12.is refl
-    (refl ▸ refl ▸ refl ▸ refl ▸ refl ▸ refl ▸ refl ▸ refl ▸ refl ▸ refl ▸ refl ▸ (c.last_varint-self-in-12.ensures uint32 refl) ▸ refl)
+    (refl ▸ refl ▸ refl ▸ refl ▸ refl ▸ refl ▸ refl ▸ refl ▸ refl ▸ refl ▸ refl
+    ▸ (c.last_varint-self-in-12.ensures uint32 refl) ▸ refl)
 
 pub returns-in_ok-push_message-in-13-clause-ok : goal.returns-in_ok-push_message-in-13-clause-ok
 returns-in_ok-push_message-in-13-clause-ok g c =
     gathers-at 12 Tables.span 13 _ _ (field_of c.args.field) c.in-13.is refl
-    (refl ▸ refl ▸ refl ▸ refl ▸ refl ▸ refl ▸ refl ▸ refl ▸ refl ▸ refl ▸ refl ▸ refl ▸ c.in_ok-push_message-in-13.ensures.ok ▸ refl)
+    (refl ▸ refl ▸ refl ▸ refl ▸ refl ▸ refl ▸ refl ▸ refl ▸ refl ▸ refl ▸ refl ▸ refl
+    ▸ c.in_ok-push_message-in-13.ensures.ok ▸ refl)
 
 pub returns-in-14-clause-ok : goal.returns-in-14-clause-ok
 returns-in-14-clause-ok g c =
     gathers-at 13 Tables.span 14 _ _ (field_of c.args.field) c.in-14.is refl
-    (refl ▸ refl ▸ refl ▸ refl ▸ refl ▸ refl ▸ refl ▸ refl ▸ refl ▸ refl ▸ refl ▸ refl ▸ refl ▸ (c.last_varint-self-in-14.ensures uint32 refl) ▸ refl)
+    (refl ▸ refl ▸ refl ▸ refl ▸ refl ▸ refl ▸ refl ▸ refl ▸ refl ▸ refl ▸ refl ▸ refl ▸ refl
+    ▸ (c.last_varint-self-in-14.ensures uint32 refl) ▸ refl)
 
 pub returns-in_ok-take_in-in-15-clause-ok : goal.returns-in_ok-take_in-in-15-clause-ok
 returns-in_ok-take_in-in-15-clause-ok g c =
     gathers-at 14 Tables.span 15 _ _ (field_of c.args.field) c.in-15.is refl
-    (refl ▸ refl ▸ refl ▸ refl ▸ refl ▸ refl ▸ refl ▸ refl ▸ refl ▸ refl ▸ refl ▸ refl ▸ refl ▸ refl ▸ c.in_ok-take_in-in-15.ensures.ok ▸ refl)
+    (refl ▸ refl ▸ refl ▸ refl ▸ refl ▸ refl ▸ refl ▸ refl ▸ refl ▸ refl ▸ refl ▸ refl ▸ refl ▸ refl
+    ▸ c.in_ok-take_in-in-15.ensures.ok ▸ refl)
 
 pub returns-in-16-clause-ok : goal.returns-in-16-clause-ok
 returns-in-16-clause-ok g c =
     gathers-at 15 Tables.span 16 _ _ (field_of c.args.field) c.in-16.is refl
-    (refl ▸ refl ▸ refl ▸ refl ▸ refl ▸ refl ▸ refl ▸ refl ▸ refl ▸ refl ▸ refl ▸ refl ▸ refl ▸ refl ▸ refl ▸ (c.last_fixed32-self.ensures fixed32 refl) ▸ refl)
+    (refl ▸ refl ▸ refl ▸ refl ▸ refl ▸ refl ▸ refl ▸ refl ▸ refl ▸ refl ▸ refl ▸ refl ▸ refl ▸ refl
+    ▸ refl ▸ (c.last_fixed32-self.ensures fixed32 refl) ▸ refl)
 
 pub returns-in_default-clause-ok : goal.returns-in_default-clause-ok
 returns-in_default-clause-ok g c =

@@ -1,7 +1,7 @@
 use Rattle.std.proofs.Common.{arith}
 use Rattle.std.proofs.lemmas.Grind.{common_steps}
 use Rattle.batch_desk.proofs.Histories.{popped_follows}
-use Rattle.batch_desk.proofs.desk.Desk.pop_entry.Goals as goal
+use Rattle.batch_desk.proofs.desk.Desk.pop_entry_slip.Goals as goal
 
 pub returns-clause-history : goal.returns-clause-history
 returns-clause-history g c = popped_follows _ _ (grind (arith, common_steps))
