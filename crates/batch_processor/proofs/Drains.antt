@@ -2,7 +2,8 @@
 use Rattle.std.proofs.Common.{◌≡◌, Bool, true, false, List}
 use Rattle.std.specs.Prelude.{None}
 use Rattle.model_desk.specs.Retries.{Outcome}
-use Rattle.model_processor.specs.AnyAccounts.{AnyAccount, after_drained, on_worker, worker, worker_in}
+use Rattle.model_processor.specs.AnyAccounts.{AnyAccount, after_drained, on_worker, worker}
+use Rattle.model_processor.specs.AnyAccounts.{worker_in}
 use Rattle.model_processor.specs.WorkerClauses.{Origin}
 use Rattle.batch_processor.specs.Working.{StepsAside, WorkerState}
 use Rattle.batch_processor.proofs.Turns.{drained_step, same_state, state_of, told_state}

@@ -4,8 +4,9 @@ ghost use Rattle.std.specs.Prelude.{ℕ, List, Option, ⊤};
 
 use otlp_http::{FaultRead, FaultWrite};
 
-/// What gives links to a collector: a fresh one for each request, since a request asks that its
-/// connection be closed (RFC 9112, section 9.6).
+/// What gives links to a collector, a fresh one at each call. A
+/// [`LinkExporter`](crate::LinkExporter) calls it for each attempt, and a
+/// [`KeptExporter`](crate::KeptExporter) where it has no link that is ready.
 ///
 /// An `impl` says by its ghost member `dials` which links it may give, if it can say that.
 pub trait Dial {

@@ -132,9 +132,9 @@ impl<D, A: Allocator + Copy> LinkExporter<D, A> {
     }
 
     /// Posts a body over this link: writes its request, reads the reply, and answers what that
-    /// means (see [`outcome_of`](otlp_http::outcome_of)). A link that takes all that it is given gets the head together
-    /// with the beginning of the body, 1,024 bytes at most, and then the rest of the body, which is
-    /// not copied.
+    /// means (see [`outcome_of`](otlp_http::outcome_of)). A link that takes all that it is given
+    /// gets the head together with the beginning of the body, 1,024 bytes at most, and then the
+    /// rest of the body, which is not copied. A head above 1,024 bytes goes out piece by piece.
     ///
     /// Where a write failed, a beginning of the request went out, and the outcome is `NoReply`,
     /// without a byte having been read. By [`LinkExporter::reading_after_a_stop`] what came is read

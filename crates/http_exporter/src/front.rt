@@ -46,8 +46,9 @@ fn head_length<A: Allocator>(target: &Target<A>, connection: Connection, size: u
     FIXED + target.path().len() + target.host().len() + port.len() + digits.len() + lines
 }
 
-/// Writes the request that carries `body` to the target and asks this of its connection: in two
-/// writes, where the link takes all that it is given, and in one where the request is small.
+/// Writes the request that carries `body` to the target and asks this of its connection. Where the
+/// head fits [`FRONT_ROOM`] and the link takes all that it is given, that is two writes, and one
+/// where the request is small; a longer head goes out piece by piece.
 ///
 /// # Errors
 ///

@@ -14,9 +14,9 @@ use std::marker::Model;
 use std::net::{Net, OpenStream, TcpStream, ToSocketAddrs};
 use std::time::{Clock, Duration};
 
-/// How long an export may take where no other time is chosen, in milliseconds: what a program hands
-/// to [`LinkExporter::new`] then (OpenTelemetry Trace SDK, "Batching processor",
-/// `exportTimeoutMillis`).
+/// A time for [`LinkExporter::new`] in a program that reads no settings, in milliseconds: the
+/// default of `exportTimeoutMillis` (OpenTelemetry Trace SDK, "Batching processor"). The settings
+/// have the default of `OTEL_EXPORTER_OTLP_TIMEOUT`, 10 seconds.
 pub const DEFAULT_EXPORT_TIMEOUT_MS: u64 = 30_000;
 
 const _: () = prove!(DEFAULT_EXPORT_TIMEOUT_MS == 30_000);

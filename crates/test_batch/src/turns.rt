@@ -7,13 +7,13 @@ use crate::fixture::{
     Left, Minutes, SECOND, assert_named, close, end, end_in, exporter, make, queue, work,
 };
 use batch_processor::{
-    BatchBlank, BatchConfig, BatchProcessor, Clock, Naming, Parts, Pass, SystemClock, WorkEnd,
-    WorkerPass,
+    BatchBlank, BatchConfig, BatchProcessor, Clock, ManualClock, Naming, Parts, Pass, SystemClock,
+    WorkEnd, WorkerPass,
 };
 use otlp_sampler::AlwaysOn;
 use otlp_span::{Entry, Reason};
 use rand_core::Rng;
-use retry_core::{Outcome, RetryAfter};
+use retry_core::{Outcome, RetryAfter, RetryConfig};
 use span_exporter::{Exporter, Handed, MemoryExporter};
 use std::alloc::Global;
 use std::marker::Brand;
@@ -123,6 +123,45 @@ where
 #[test]
 fn one_word_is_drawn_for_each_reply(rt: HostRuntime) {
     draw::<Brand, HostRuntime>(rt, rt.alloc(), BatchBlank::new());
+}
+
+/// A batch that got no reply is sent again this number of milliseconds after it, where this word is
+/// drawn, and not a nanosecond earlier.
+fn wait_by_word<J, R>(rt: R, alloc: Global, blank: BatchBlank, word: u64, wait_ms: u64)
+where
+    J: Naming,
+    R: Wait + Abort + time::Clock + Copy,
+    requires { blank ≡ J.name }
+{
+    let mut settings = config(1, 1);
+    settings.retry = RetryConfig::new(2, 1000, 1000).expect(&rt, "a retry");
+    let sent = 79 * SECOND + 3;
+    let again = sent.saturating_add(wait_ms.saturating_mul(1_000_000));
+    let Parts {
+        processor,
+        mut passes,
+        mut worker,
+    } = make::<J, R, Global>(rt, alloc, blank, settings, 1, sent);
+    let mut exporter = exporter(&rt, alloc, &[Outcome::NoReply]);
+    queue(&rt, alloc, passes.as_mut_slice(), 0, 1);
+    let mut rng = WordsRng::new(Vec::from_slice(alloc, &[word]).expect(&rt, "memory"));
+    let end = worker.work(&mut exporter, &ManualClock::new(sent), &mut rng, 4);
+    assert_equal(&rt, end, WorkEnd::TurnsSpent);
+    let early = again.saturating_sub(1);
+    work(rt, alloc, &mut worker, &mut exporter, early, 10);
+    assert_equal_at(&rt, exporter.handed().len(), 1, word);
+    work(rt, alloc, &mut worker, &mut exporter, again, 10);
+    assert_equal_at(&rt, exporter.handed().len(), 2, word);
+    close(rt, alloc, processor, passes, worker);
+}
+
+/// The first wait is of 1000 milliseconds, less the word modulo half of that and one more, 501.
+#[test]
+fn a_batch_without_a_reply_waits_as_its_word_says(rt: HostRuntime) {
+    for (word, wait_ms) in [(0, 1000), (7, 993), (1001, 500)] {
+        let blank = BatchBlank::new();
+        wait_by_word::<Brand, HostRuntime>(rt, rt.alloc(), blank, word, wait_ms);
+    }
 }
 
 /// How long twenty turns take, in nanoseconds, in which nothing can be done: this number of spans

@@ -3,6 +3,7 @@
 mod environment;
 mod equal;
 mod fixture;
+mod names;
 mod serving;
 mod side_by_side;
 mod starting;

@@ -6,14 +6,14 @@ use http_exporter::{
     Buffered, Countdown, Deadline, Dial, IdleStream, KeptExporter, KeptLink, LinkExporter,
     Monotonic, TcpDial, TimedStream,
 };
-use otlp_http::{DeviceFailed, FaultRead};
+use otlp_http::{DeviceFailed, FaultRead, FaultWrite};
 use retry_core::Outcome;
 use std::alloc::Global;
 use std::cell::Cell;
 use std::io::{Read, Write};
 use std::net::{OpenListener, TcpListener};
 use std::process::Abort;
-use std::time::Duration;
+use std::time::{Duration, Instant};
 
 /// A clock whose time doesn't pass.
 #[derive(Clone, Copy)]
@@ -265,4 +265,44 @@ fn a_connection_is_ready_until_bytes_come_or_it_ends(rt: HostRuntime) {
     assert_equal(&rt, link.renew(), true);
     drop(other);
     assert_equal(&rt, link.renew(), false);
+}
+
+/// Sends a request of one byte and its reply, and checks that each comes to the other end.
+fn assert_exchange<L: FaultRead + FaultWrite, O: Read + Write>(
+    rt: &impl Abort,
+    link: &mut L,
+    other: &mut O,
+) {
+    let mut came = [0; 8];
+    assert_equal(rt, link.write(b"q").ok(), Some(1));
+    assert_equal(rt, other.read(&mut came).ok(), Some(1));
+    assert_equal(rt, came[0], b'q');
+    assert_equal(rt, other.write(b"a").ok(), Some(1));
+    assert_equal(rt, link.read(&mut came).ok(), Some(1));
+    assert_equal(rt, came[0], b'a');
+}
+
+/// Over the system's sockets: a connection that is asked whether it is ready carries a request and
+/// its reply, and once more; and then it waits for a reply that doesn't come until its time is up.
+#[test]
+fn a_connection_that_was_asked_carries_a_request_and_waits_for_the_reply(rt: HostRuntime) {
+    let listener = TcpListener::bind(&rt, "127.0.0.1:0").expect(&rt, "a listener");
+    let port = listener.local_addr().expect(&rt, "a port").port();
+    let mut dial = TcpDial::new(rt, 500).within_ms(60_000);
+    let link = dial.dial("127.0.0.1", port);
+    let (mut other, _) = listener.accept().expect(&rt, "a connection");
+    let Some(mut link) = link else {
+        assert!(rt; false);
+        return;
+    };
+    for _exchange in 0..2 {
+        assert_equal(&rt, link.renew(), true);
+        assert_exchange(&rt, &mut link, &mut other);
+    }
+    assert_equal(&rt, link.renew(), true);
+    let began = Instant::now(&rt).expect(&rt, "a moment");
+    assert_equal(&rt, link.read(&mut [0; 8]).is_err(), true);
+    let waited = began.elapsed(&rt).expect(&rt, "a moment");
+    assert!(rt; waited >= Duration::from_millis(400));
+    drop(other);
 }

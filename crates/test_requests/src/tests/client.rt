@@ -93,8 +93,12 @@ fn ask_by<S: Sampler + Drop, C: Clock + Drop>(
     let parts = ClientParts {
         tracer: provider.tracer(Arc::new(alloc, Scope::named(alloc, "test")?)?),
         rng: WordsRng::new(Vec::from_slice(alloc, words)?),
-        clock,
-        dial: FarSide { does, sent: &sent },
+        clock: &clock,
+        dial: FarSide {
+            does,
+            clock: &clock,
+            sent: &sent,
+        },
     };
     let known = KnownMethods::parse(alloc, listed)?;
     let mut client = Client::new(alloc, parts).with_known_methods(known);
@@ -187,6 +191,16 @@ const ERRORS: &[(Does, &str, &str)] = &[
         " http.response.status_code=Int(503) error.type=Text(\"503\")\n",
     ),
     (
+        Does::Replies(b"HTTP/1.1 405 No\r\nContent-Length: 0\r\n\r\n"),
+        "405 \n",
+        " http.response.status_code=Int(405) error.type=Text(\"405\")\n",
+    ),
+    (
+        Does::Replies(b"HTTP/1.1 599 Odd\r\nContent-Length: 0\r\n\r\n"),
+        "599 \n",
+        " http.response.status_code=Int(599) error.type=Text(\"599\")\n",
+    ),
+    (
         Does::Replies(b"HTTP/1.1 200 OK\r\nContent-Length: 9\r\n\r\nhi"),
         "200 the message ended early\n",
         " http.response.status_code=Int(200) error.type=Text(\"no_body\")\n",
@@ -231,16 +245,31 @@ fn an_error_is_on_the_span(rt: HostRuntime) -> Result<(), Fail> {
     Ok(())
 }
 
+/// Replies that are no errors, and their status.
+const STATUSES: &[(&[u8], u16)] = &[
+    (b"HTTP/1.1 204 None\r\n\r\n", 204),
+    (b"HTTP/1.1 304 Same\r\n\r\n", 304),
+    (b"HTTP/1.1 399 Odd\r\nContent-Length: 0\r\n\r\n", 399),
+];
+
 #[test]
-fn a_reply_below_400_is_no_error(rt: HostRuntime) -> Result<(), Fail> {
-    let reply = b"HTTP/1.1 399 Odd\r\nContent-Length: 0\r\n\r\n";
-    let came = ask(&rt, &WORDS, Does::Replies(reply), &[Asked::Get(None)])?;
-    assert_equal(&rt, came.replies.as_str(), "399 \n");
-    let spans = "GET Client 0000000000000003 http.request.method=Text(\"GET\") \
-        server.address=Text(\"shop.example\") server.port=Int(8080) \
-        url.full=Text(\"http://shop.example:8080/items?page=2\") \
-        network.protocol.version=Text(\"1.1\") http.response.status_code=Int(399)\n";
-    assert_equal(&rt, came.spans.as_str(), spans);
+fn a_reply_below_400_is_no_error_and_its_status_is_on_the_span(
+    rt: HostRuntime,
+) -> Result<(), Fail> {
+    let alloc = rt.alloc();
+    for (reply, status) in STATUSES {
+        let came = ask(&rt, &WORDS, Does::Replies(*reply), &[Asked::Get(None)])?;
+        let said = format!(in alloc; "{status} \n")?;
+        assert_equal(&rt, came.replies.as_str(), said.as_str());
+        let spans = format!(in alloc;
+            "GET Client 0000000000000003 http.request.method=Text(\"GET\") \
+            server.address=Text(\"shop.example\") server.port=Int(8080) \
+            url.full=Text(\"http://shop.example:8080/items?page=2\")\
+            {VERSION} http.response.status_code=Int({status})\n"
+        )?;
+        assert_equal(&rt, came.spans.as_str(), spans.as_str());
+        assert_equal(&rt, came.untraced, 0);
+    }
     Ok(())
 }
 
@@ -263,7 +292,7 @@ fn a_span_starts_before_the_request_goes_out_and_ends_after_its_reply(
     let asked = [Asked::Get(None), Asked::Get(None)];
     let (clock, does) = (Steps::after(1_000), Does::Replies(GOOD));
     let came = ask_by(&rt, AlwaysOn, clock, "", "/", &WORDS, does, &asked)?;
-    let moments: [(u64, u64); 2] = [(1_010, 1_020), (1_030, 1_040)];
+    let moments: [(u64, u64); 2] = [(1_010, 1_030), (1_040, 1_060)];
     assert_equal(&rt, came.moments.as_slice(), moments.as_slice());
     Ok(())
 }

@@ -4,6 +4,7 @@ use otlp_http::DeviceFailed;
 use std::cell::RefCell;
 use std::io::Read;
 use std::time::Duration;
+use trace_api::Clock;
 
 /// A clock whose time doesn't pass.
 #[derive(Clone, Copy)]
@@ -63,16 +64,19 @@ impl TimedStream for Talk<'_> {
 
 /// A dial of a host and a port, whose far side does the same each time.
 #[derive(Drop)]
-pub(crate) struct FarSide<'a> {
+pub(crate) struct FarSide<'a, C> {
     pub(crate) does: Does,
+    /// The client's clock, which it reads when it is dialed.
+    pub(crate) clock: &'a C,
     /// All bytes that it took.
     pub(crate) sent: &'a RefCell<Vec<u8>>,
 }
 
-impl<'a> Dial for FarSide<'a> {
+impl<'a, C: Clock> Dial for FarSide<'a, C> {
     type Link = Buffered<Deadline<Talk<'a>, Stopped>>;
 
     fn dial(&mut self, host: &str, port: u16) -> Option<Self::Link> {
+        self.clock.now();
         if host != "shop.example" || port != 8080 {
             return None;
         }

@@ -18,15 +18,17 @@ const AT: u64 = 1_000;
 
 /// Answers by the path, and keeps the span whose context it was given last.
 #[derive(Drop)]
-struct Probe<'a> {
+struct Probe<'a, C> {
     alloc: Global,
+    /// The service's clock, which it reads before it answers.
+    clock: &'a C,
     given: String,
     /// What spans of its own are made with.
     tracer: Tracer<'a, AlwaysOn>,
     rng: WordsRng,
 }
 
-impl Probe<'_> {
+impl<C> Probe<'_, C> {
     /// Says what there is to say on the request's span, and does some work within a span of its
     /// own.
     fn work<P: EndPass<SpanData>, O: Origin>(&mut self, span: &mut RequestSpan<O>, pass: &mut P) {
@@ -52,7 +54,7 @@ fn status_in(path: &str) -> Option<StatusCode> {
     StatusCode::from_u16(status.parse().ok()?).ok()
 }
 
-impl<P: EndPass<SpanData>> Handler<P> for Probe<'_> {
+impl<P: EndPass<SpanData>, C: Clock> Handler<P> for Probe<'_, C> {
     fn route(&self, request: &Request<Bytes>) -> Option<&str> {
         match request.uri().path() {
             "/item/7" => Some("/item/{id}"),
@@ -68,6 +70,7 @@ impl<P: EndPass<SpanData>> Handler<P> for Probe<'_> {
         pass: &mut P,
         response: &mut Response,
     ) -> Result<(), AllocError> {
+        self.clock.now();
         let alloc = self.alloc;
         self.given = match span.context() {
             Some(context) => format!(in alloc; "{}", context.span)?,
@@ -135,7 +138,7 @@ pub(crate) fn answer_by<C: Clock + Drop>(
     let tracing = Tracing {
         tracer: provider.tracer(Arc::new(alloc, Scope::named(alloc, "test")?)?),
         rng: WordsRng::new(Vec::from_slice(alloc, words)?),
-        clock,
+        clock: &clock,
         server: ServerName {
             address: "example.org",
             port: 80,
@@ -143,6 +146,7 @@ pub(crate) fn answer_by<C: Clock + Drop>(
     };
     let probe = Probe {
         alloc,
+        clock: &clock,
         given: String::new(alloc),
         tracer: provider.tracer(Arc::new(alloc, Scope::named(alloc, "own")?)?),
         rng: WordsRng::new(Vec::from_slice(alloc, &[0xaa])?),

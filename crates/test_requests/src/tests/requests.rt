@@ -40,7 +40,7 @@ fn each_request_has_a_span_whose_parent_is_what_it_carried(rt: HostRuntime) -> R
 fn a_span_starts_before_its_handler_and_ends_after_it(rt: HostRuntime) -> Result<(), Fail> {
     let input = b"GET / HTTP/1.1\r\nHost: h\r\n\r\nGET /fails HTTP/1.1\r\nHost: h\r\n\r\n";
     let came = answer_by(&rt, Steps::after(1_000), "", &WORDS, input)?;
-    let moments: [(u64, u64); 2] = [(1_010, 1_020), (1_030, 1_040)];
+    let moments: [(u64, u64); 2] = [(1_010, 1_030), (1_040, 1_060)];
     assert_equal(&rt, came.moments.as_slice(), moments.as_slice());
     Ok(())
 }

@@ -3,10 +3,11 @@ use crate::tests::equal::assert_equal;
 use crate::tests::fixture::{Ends, Slow, answered, config, names};
 use batch_processor::WorkEnd;
 use batch_service::{Done, Served, StartFault, serve_within};
-use drop_ledger::NewestNames;
+use drop_ledger::{NameLines, NewestNames};
 use otlp_span::Reason;
 use retry_core::{Outcome, RetryAfter};
 use std::process::Abort;
+use std::str;
 use std::time::Clock;
 
 /// An outcome after which the batch is sent again in a day.
@@ -69,6 +70,36 @@ fn a_stop_has_an_end_where_nothing_is_delivered(rt: HostRuntime) {
         (served.desk.ledger().len(), served.desk.lost().len()),
         (0, 0),
     );
+}
+
+/// Of eleven spans the first four are handed and lost, and the others dropped.
+#[test]
+fn a_stop_names_dropped_spans_before_lost_ones_the_oldest_first(rt: HostRuntime) {
+    let alloc = rt.alloc();
+    let exporter = answered(&rt, alloc, &[TOMORROW]);
+    let sink = NameLines::new(Vec::new(alloc));
+    let work = Ends { alloc, spans: 11 };
+    let done = serve_within(rt, alloc, exporter, sink, config(&rt, 11, 4), 1, &work, 200);
+    let Done { outputs: _, served } = done.expect(&rt, "a service");
+    let written = served.sink.into_writer();
+    let lines = str::from_utf8(written.as_slice()).expect(&rt, "text");
+    let wanted = [
+        "dropped 4 ",
+        "dropped 5 ",
+        "dropped 6 ",
+        "dropped 7 ",
+        "dropped 8 ",
+        "dropped 9 ",
+        "dropped 10 ",
+        "lost 0 ",
+        "lost 1 ",
+        "lost 2 ",
+        "lost 3 ",
+    ];
+    assert_equal(&rt, lines.lines().count(), wanted.len());
+    for (line, begin) in lines.lines().zip(wanted) {
+        assert_equal(&rt, (line, line.starts_with(begin)), (line, true));
+    }
 }
 
 #[test]

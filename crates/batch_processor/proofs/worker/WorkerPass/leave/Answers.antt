@@ -15,7 +15,8 @@ invariant_of-self-2 g c =
     let origin = setup_view then.setup in
     let was : c.self.inside.in_hand ≡ Some c.in-Some.hand = search rules in
     let state =
-    state_of (setup_view first.setup) (worker_in first.holder) (outcomes_view first.outcomes.items) in
+    state_of (setup_view first.setup) (worker_in first.holder)
+    (outcomes_view first.outcomes.items) in
     let sender : state ≡ c.self.inside.sender = search rules in
     let here : c.self.inside.left ≡ false = search rules in
     let later : state_of origin (worker_in then.holder) os ≡ c.abandon.new.self = search rules in
