@@ -7,7 +7,7 @@ PORT ?= 4318
 help: ## List the targets
 	@grep -E '^[a-z]+:.*##' Makefile | sed -E 's/:.*## /: /'
 
-run: ## Build two programs without their proofs, and show a trace; PORT=4318 is where (some 90 seconds)
+run: ## Build two programs without their proofs, and show a trace; PORT=4318 is where (one and a half to two minutes)
 	@tools/run-first $(PORT)
 
 tour: ## Build the other programs and run them, each with a word on what it shows
