@@ -381,8 +381,10 @@ def imports_in(text):
 
 def unused_imports(text):
     """The imports that nothing uses: each with its line's number and its name."""
-    rest = re.sub(r"(?m)^(pub )?use [^\s{]+(\.\{[^}]*\})?.*$|(^|(?<=[\s(){};,]))--.*$", "", text)
-    names = set(re.findall(NAME, re.sub(TEXT, '""', rest)))
+    rest = re.sub(r"(?m)^(pub )?use [^\s{]+(\.\{[^}]*\})?.*$", "", text)
+    # A text may have `--` in it, and a comment a quotation mark: whichever begins first is taken out.
+    rest = re.sub(rf"(?m){TEXT}|(^|(?<=[\s(){{}};,]))--.*$", '""', rest)
+    names = set(re.findall(NAME, rest))
     names |= {part for name in names if "◌" in name for part in name.split("◌")}
     names |= {">>="} if "do" in names else set()
     for at, name in imports_in(text):

@@ -59,7 +59,7 @@ message_of denials.UnknownVersion = codes "send the request by HTTP/1.1"
 
 -- 405 says which methods are allowed (RFC 9110, section 15.5.6)
 abbrev pub allow_fields : Denial → List Header
-allow_fields denials.ExportMethod = (codes "allow", codes "POST") ∷ []
+allow_fields denials.ExportMethod = (codes "allow", codes "OPTIONS, POST") ∷ []
 allow_fields denials.PageMethod = (codes "allow", codes "GET, HEAD") ∷ []
 allow_fields _ = []
 
@@ -93,7 +93,19 @@ IsDenial denial format response =
     IsResponse (code_of denial) (denial_fields denial format)
     (denial_body (message_of denial) format) response
 
--- the response says that all spans of a request were taken: an ExportTraceServiceResponse with no
--- fields (OTLP Specification, Full Success)
-abbrev pub IsSuccess : Response → Type 0
-IsSuccess response = IsResponse 200 (format_fields formats.Protobuf) [] response
+-- an ExportTraceServiceResponse with no fields, as it is written in a format (OTLP Specification,
+-- Full Success; Protocol Buffers, ProtoJSON)
+abbrev pub success_body : Format → List ℕ
+success_body formats.Json = codes "{}"
+success_body _ = []
+
+-- the response says that all spans of a request were taken, in the format of the request (OTLP
+-- Specification, OTLP/HTTP Response)
+abbrev pub IsSuccess : Format → Response → Type 0
+IsSuccess format response =
+    IsResponse 200 (format_fields format) (success_body format) response
+
+-- the response says which methods the path of exports has, and nothing else (RFC 9110, section
+-- 9.3.7)
+abbrev pub IsOptions : Response → Type 0
+IsOptions response = IsResponse 204 (allow_fields denials.ExportMethod) [] response

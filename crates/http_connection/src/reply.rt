@@ -10,7 +10,7 @@ mod hosts;
 mod request;
 mod tally;
 
-pub use denial::{Denial, fill_denial, fill_taken};
+pub use denial::{Denial, fill_denial, fill_options, fill_taken};
 pub use format::{Format, add_format};
 pub use hosts::{Hosts, asked_host};
 pub use request::{denial_format, is_export, is_export_path, path_of};

@@ -3,6 +3,5 @@
 mod bodies;
 mod equal;
 mod hosts;
-mod shared;
 mod store;
 mod text;

@@ -1,5 +1,5 @@
 -- How a tracer starts spans.
-use Rattle.std.specs.Prelude.{◌≡◌, ℕ, ◌⊎◌, List, [], true, false, Option, Some, None, string_bytes}
+use Rattle.std.specs.Prelude.{◌≡◌, ℕ, ◌⊎◌, List, [], true, false, Option, Some, None}
 use Rattle.std.specs.Prelude.{Result, Ok, Err}
 use Rattle.model_span.specs.Spans.{Context, Kind, Resource, Scope, SpanLimits}
 use Rattle.model_span.specs.Attributes.{is_empty}
@@ -7,7 +7,6 @@ use Rattle.model_span.specs.Sampling.{SamplerMeaning, is_recording}
 use Rattle.model_span.specs.Starts.{Ids as ModelIds, StartRequest, StartedSpan, Tracer, HeldSpan}
 use Rattle.model_span.specs.Starts.{held_span, started_span_as}
 use Rattle.otlp_ids.specs.SpanContext.{parent_view}
-use Rattle.otlp_span.specs.Parts.{kind_view}
 use Rattle.otlp_sampler.specs.Sampling.{decision_view}
 use Rattle.trace_api.specs.declared.provider.Ids.{Ids}
 use Rattle.trace_api.specs.declared.provider.Decided.{Decided}

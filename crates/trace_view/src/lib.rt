@@ -18,6 +18,7 @@ mod complaints;
 mod crowd;
 mod failure;
 mod longest;
+mod origins;
 mod peer;
 mod peers;
 mod pending;

@@ -8,9 +8,11 @@ use crate::failure::{Failure, ListenFault, tell};
 use crate::report::report;
 use crate::{Complaints, End, Peers, Settings, StageTimes};
 use http_connection::Limits;
+use http_cors::{Cors, Origins};
 use std::alloc::Global;
 use std::hash::RandomState;
 use std::io::{self, Write};
+use std::mem;
 use std::net::{Net, SocketAddr, TcpListener, TcpStream};
 use std::random::RandomSource;
 use std::sync::{Arc, Wait};
@@ -23,6 +25,9 @@ const CONNECTIONS: usize = 8_192;
 
 /// The bytes of a MiB.
 const MIB: u64 = 1_048_576;
+
+/// Where pages of other origins may post, if they may (OTLP Specification, "OTLP/HTTP Request").
+const EXPORT_PATH: &str = "/v1/traces";
 
 /// How long the rest of a refused request is read, in milliseconds. (profile)
 const DISCARD_MS: u64 = 2_000;
@@ -37,8 +42,8 @@ const CLOSE_MS: u64 = 1_000;
 /// All connections are served by turns, on one thread: a client that is silent or drips holds up no
 /// other one.
 ///
-/// The answer is the program's status: 0 after help, 1 where the address can't be listened at, the
-/// system refuses to wait for connections or a line can't be written, 2 where the words are bad, 3
+/// The answer is the program's status: 0 after help or the version, 1 where it can't listen at the
+/// address, wait for connections, write a line or get random numbers, 2 where the words are bad, 3
 /// where memory was refused.
 pub fn run_view<R, P, W, F>(
     rt: R,
@@ -60,7 +65,7 @@ where
         Ok(args) => args,
         Err(fault) => return fault.tell(output, faults),
     };
-    let failure = view(rt, alloc, pages, &args, output, faults);
+    let failure = view(rt, alloc, pages, args, output, faults);
     tell(faults, failure)
 }
 
@@ -69,7 +74,7 @@ fn view<R, P, W, F>(
     rt: R,
     alloc: Global,
     pages: P,
-    args: &ViewArgs,
+    mut args: ViewArgs,
     output: &mut W,
     faults: &mut F,
 ) -> Failure
@@ -83,15 +88,16 @@ where
         Ok(listening) => listening,
         Err(failure) => return failure,
     };
-    let mut service = match service_of(&rt, alloc, pages, args, address) {
-        Ok(service) => service,
+    let origins = Origins::new(mem::replace(&mut args.origins, Vec::new(alloc)));
+    let mut service = match service_of(&rt, alloc, pages, &args, address) {
+        Ok(service) => Cors::new(alloc, service, origins, EXPORT_PATH),
         Err(failure) => return failure,
     };
     if let Err(failure) = print_address(alloc, address, output) {
         return failure;
     }
     let listener = mio::net::TcpListener::from_std(listener);
-    match Peers::new(rt, alloc, listener, settings_of(args)) {
+    match Peers::new(rt, alloc, listener, settings_of(&args)) {
         Ok(peers) => serve(rt, alloc, peers, &mut service, faults),
         Err(end) => failure_of(end),
     }
@@ -136,7 +142,7 @@ fn serve<R, K, P, F>(
     rt: R,
     alloc: Global,
     mut peers: Peers<R, P::Page>,
-    service: &mut ViewService<K, P>,
+    service: &mut Cors<ViewService<K, P>>,
     faults: &mut F,
 ) -> Failure
 where
@@ -152,9 +158,14 @@ where
             Err(end) => return failure_of(end),
         };
         for _ in 0..round.accepted {
-            service.count_connection();
+            service.service.count_connection();
         }
-        report(&mut complaints, service.tallies(), faults, round.at_ms);
+        report(
+            &mut complaints,
+            service.service.tallies(),
+            faults,
+            round.at_ms,
+        );
     }
     unreachable!()
 }

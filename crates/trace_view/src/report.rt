@@ -10,9 +10,10 @@ fn advice(status: u16) -> &'static str {
     match status {
         400 => "the request or its body can't be read: post OTLP over HTTP/1.1",
         403 => "allow the name under which it was asked by --host NAME",
-        404 => "post traces to /v1/traces, and nothing else",
+        404 =>
+            "post traces to /v1/traces; nothing is at the path, or its trace isn't kept any more",
         405 => "post to /v1/traces, and get the other paths",
-        413 => "raise --max-body, or let the exporter send smaller batches",
+        413 => "let the exporter send smaller batches, or raise --max-body or what is kept",
         414 => "ask for a shorter target",
         415 => "set the exporter's protocol to http/protobuf, its compression to gzip or none",
         431 => "send fewer or shorter fields",

@@ -1,4 +1,3 @@
 mod Received
 mod Strips
-mod Sums
 mod Zips

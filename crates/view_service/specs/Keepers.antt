@@ -36,10 +36,6 @@ pub record GivesUp {S : Type 0} (size : S → ℕ) (old : Store S) (bytes : ℕ)
   pub max_spans : new.max_spans ≡ old.max_spans
   pub max_bytes : new.max_bytes ≡ old.max_bytes
 
--- A keeper that has kept this many spans in a shared store has kept these parts, too.
-abbrev pub CountsParts : {S : Type 0} → ℕ → List (ℕ × List S) → ℕ → Type 0
-CountsParts old parts new = new ≡ old + span_count parts
-
 -- Of a trace that a store keeps, copies of its spans are lent, in the order in which they came; and
 -- nothing of any other.
 abbrev pub LendsCopies : {S : Type 0} → (S → S → Type 0) → Store S → ℕ → Option (List S) → Type 0

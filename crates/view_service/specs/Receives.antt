@@ -155,7 +155,7 @@ pub data Receives {A K : Type 0} (keeps : Keeping A K) (lacks_room : Lacking A K
 -- The response says why a request is refused, or that its spans were taken.
 abbrev pub IsAnswer : Option Denial → Format → Response → Type 0
 IsAnswer (Some denial) format response = IsDenial denial format response
-IsAnswer None format response = IsSuccess response
+IsAnswer None format response = IsSuccess format response
 
 -- a content that was sent for its spans to be received is answered so, in this format
 abbrev pub AnswersContent : {A K : Type 0} → Keeping A K → Lacking A K → Giving K → K → List ℕ → ℕ

@@ -1,5 +1,5 @@
 -- What the service does for a connection.
-use Rattle.std.specs.Prelude.{◌≡◌, ℕ, ◌==◌, ◌||◌, true, false, not, if◌then◌else◌, List}
+use Rattle.std.specs.Prelude.{◌≡◌, ℕ, ◌==◌, ◌||◌, Bool, true, false, not, if◌then◌else◌, List}
 use Rattle.std.specs.Prelude.{codes, bytes_eq, nat_lt, Option, Some, None, unwrap_or}
 use Rattle.http.specs.Request.{head_of}
 use Rattle.http.specs.declared.request.Parts.{Parts as Head}
@@ -9,7 +9,7 @@ use Rattle.http_connection.specs.declared.limits.Refusal.{Refusal}
 use Rattle.http_connection.specs.declared.limits.Refusal.TheVariants as refusals
 use Rattle.http_server.specs.declared.response.Response.{Response}
 use Rattle.http_uri.specs.Uri.{uri_path}
-use Rattle.http_connection.specs.Denials.{IsDenial}
+use Rattle.http_connection.specs.Denials.{IsDenial, IsOptions}
 use Rattle.http_connection.specs.Hosts.{allows_head}
 use Rattle.http_connection.specs.Requests.{denial_format, is_export_path}
 use Rattle.http_connection.specs.Tallies.{CountsAnswer, Tally}
@@ -67,17 +67,29 @@ denial_by refusals.NoRoom = denials.NoRoom
 denial_by refusals.UnknownCoding = denials.UnknownCoding
 denial_by refusals.UnknownVersion = denials.UnknownVersion
 
+-- a request for the path to which traces are posted (OTLP Specification, OTLP/HTTP Request)
+abbrev pub is_export_of_traces : HttpRequest (List ℕ) → Bool
+is_export_of_traces request = bytes_eq (uri_path (head_of request).uri) (codes "/v1/traces")
+
+-- a request that asks which methods there are (RFC 9110, section 9.3.7)
+abbrev pub asks_for_methods : HttpRequest (List ℕ) → Bool
+asks_for_methods request = bytes_eq (head_of request).method (codes "OPTIONS")
+
 module _ {A K P R S : Type 0} (keeps : Keeping A K) (lacks_room : Lacking A K)
     (gives_up : Giving K) (lends : Lending K S) (draws : Drawing P S) (writes : Writing R) where
-  -- A whole request is answered, where this many bytes may still be pending: one to receive spans,
-  -- one to receive what isn't taken, or one for a page. Only the first one changes what is kept.
+  -- A whole request is answered, where this many bytes may still be pending: one that asks which
+  -- methods there are where spans are received, one to receive spans, one to receive what isn't
+  -- taken, or one for a page. Only one to receive spans changes what is kept.
   pub data Answers (old : ViewService K P) (request : HttpRequest (List ℕ)) (room : ℕ)
       (response : Response) (rest : Option R) (new : K) : Type 0 where
-    received : bytes_eq (uri_path (head_of request).uri) (codes "/v1/traces") ≡ true
+    options : is_export_of_traces request ≡ true → asks_for_methods request ≡ true
+        → IsOptions response → rest ≡ None → new ≡ keeper_of old
+        → Answers old request room response rest new
+    received : is_export_of_traces request ≡ true → asks_for_methods request ≡ false
         → AnswersExport keeps lacks_room gives_up (keeper_of old) request (max_body_of old) room
         response new
         → rest ≡ None → Answers old request room response rest new
-    traces_only : bytes_eq (uri_path (head_of request).uri) (codes "/v1/traces") ≡ false
+    traces_only : is_export_of_traces request ≡ false
         → is_export_path (uri_path (head_of request).uri) ≡ true
         → IsDenial denials.TracesOnly (denial_format (Some (head_of request))) response
         → rest ≡ None → new ≡ keeper_of old → Answers old request room response rest new

@@ -77,13 +77,13 @@ pub trait Pages<S, D> {
         ensures { IfOk result (λ page. (bytes : List ℕ) → Self.Page.writes page bytes
             → draws self.now form trace spans.items bytes) };
 
-    /// The page where nothing is.
+    /// Appends the page of 404: nothing is at this path.
     fn missing(&self, out: &mut Vec<u8>) -> Result<(), AllocError>;
 
-    /// What the pages look like.
+    /// The stylesheet of all pages.
     fn style(&self) -> &'static str;
 
-    /// A script that no page needs.
+    /// The script of all pages. Each page works without it.
     fn script(&self) -> &'static str;
 
     /// What is counted, and the traces that were evicted last, the last one first, in JSON.

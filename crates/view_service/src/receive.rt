@@ -165,7 +165,7 @@ fn receive_content<K: TraceKeeper<Arc<ViewSpan>, TraceDigest>>(
         }
     };
     // All memory is taken before the keeper changes, so that nothing can fail after it.
-    fill_taken(response)?;
+    fill_taken(response, format)?;
     match keep_parts(keeper, content, parts) {
         Ok(()) => {}
         Err(InsertFault::TooLarge) => {

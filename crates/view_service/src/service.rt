@@ -18,7 +18,7 @@ use crate::show::Viewer;
 use bytes::Bytes;
 use http::Request;
 use http_connection::reply::{
-    Denial, Hosts, Tallies, denial_format, fill_denial, is_export_path, path_of,
+    Denial, Hosts, Tallies, denial_format, fill_denial, fill_options, is_export_path, path_of,
 };
 use http_connection::{Refusal, Service};
 use http_server::Response;
@@ -186,6 +186,10 @@ where
     {
         let path = path_of(request);
         if path == "/v1/traces" {
+            if request.method().as_str() == "OPTIONS" {
+                fill_options(response)?;
+                return Ok(None);
+            }
             let keeper = &mut self.keeper;
             receive(self.alloc, keeper, request, self.max_body, room, response)?;
             return Ok(None);

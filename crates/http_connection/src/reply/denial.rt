@@ -3,8 +3,8 @@
 ghost use Rattle.std.specs.Prelude.{◌≡◌, ◌<◌, ◌∷◌, ◌++◌, [], OnOk, length};
 ghost use Rattle.http_server.specs.Response.{IsBlank, fields_of};
 ghost use Rattle.http_connection.specs.Denials as spec;
-ghost use Rattle.http_connection.specs.Denials.{IsDenial, IsSuccess, allow_fields, denial_body};
-ghost use Rattle.http_connection.specs.Denials.{message_of, wait_fields};
+ghost use Rattle.http_connection.specs.Denials.{IsDenial, IsOptions, IsSuccess, allow_fields};
+ghost use Rattle.http_connection.specs.Denials.{denial_body, message_of, success_body, wait_fields};
 
 use crate::reply::format::{Format, add_field, add_format};
 use bytes::BufMut;
@@ -115,7 +115,7 @@ fn add_allow(response: &mut Response, denial: Denial) -> Result<(), AllocError>
     ensures body { response.new.body ≡ response.old.body }
 {
     match denial {
-        Denial::ExportMethod => add_field(response, "allow", "POST"),
+        Denial::ExportMethod => add_field(response, "allow", "OPTIONS, POST"),
         Denial::PageMethod => add_field(response, "allow", "GET, HEAD"),
         _ => Ok(()),
     }
@@ -196,14 +196,40 @@ pub fn fill_denial(
     put_message(&mut response.body, denial.message(), format)
 }
 
-/// Makes a blank response the answer to an export whose spans were taken.
+/// Appends what an export whose spans were taken is answered, in a format.
+fn put_success(body: &mut Rope, format: Format) -> Result<(), AllocError>
+    ensures { OnOk result (body.new.items ≡ body.old.items ++ success_body format) }
+{
+    match format {
+        Format::Json => body.put_slice(b"{}"),
+        _ => Ok(()),
+    }
+}
+
+/// Makes a blank response the answer to an export whose spans were taken, in the format of the
+/// export (OTLP Specification, "OTLP/HTTP Response").
 ///
 /// # Errors
 ///
 /// `AllocError` where memory was refused. The response is then unfinished.
-pub fn fill_taken(response: &mut Response) -> Result<(), AllocError>
+pub fn fill_taken(response: &mut Response, format: Format) -> Result<(), AllocError>
     requires { IsBlank response.old }
-    ensures { OnOk result (IsSuccess response.new) }
+    ensures { OnOk result (IsSuccess format response.new) }
 {
-    add_format(response, Format::Protobuf)
+    add_format(response, format)?;
+    put_success(&mut response.body, format)
+}
+
+/// Makes a blank response the answer to `OPTIONS` at the path of exports: which methods it has (RFC
+/// 9110, section 9.3.7).
+///
+/// # Errors
+///
+/// `AllocError` where memory was refused. The response is then unfinished.
+pub fn fill_options(response: &mut Response) -> Result<(), AllocError>
+    requires { IsBlank response.old }
+    ensures { OnOk result (IsOptions response.new) }
+{
+    response.status = StatusCode::NO_CONTENT;
+    add_allow(response, Denial::ExportMethod)
 }

@@ -1,10 +1,10 @@
-use Rattle.std.proofs.Common.{rules, ◌≡◌, arith, codes, subst}
+use Rattle.std.proofs.Common.{rules, ◌≡◌, arith, codes, false, inl, inr, subst}
 use Rattle.std.specs.Prelude.{IfErr}
 use Rattle.std.proofs.lemmas.Grind.{common_steps}
 use Rattle.program_args.specs.Words as given
 use Rattle.program_args.specs.Words.{texts_given, texts_of}
-use Rattle.trace_view.specs.Command.{IsNoAddress, command}
-use Rattle.trace_view.proofs.Causes.{cause-of, cause-of-address}
+use Rattle.trace_view.specs.Command.{IsNoAddress, are_origins, command}
+use Rattle.trace_view.proofs.Causes.{cause-of, cause-of-text}
 use Rattle.trace_view.proofs.args.ViewArgs.read.Goals as goal
 
 pub returns-in_err-found-clause-refused : goal.returns-in_err-found-clause-refused
@@ -20,5 +20,5 @@ returns-in_default-clause-refused c =
     first_of (search rules, grind (arith, common_steps)) in
     let none : IsNoAddress (texts_given command (codes "address") c.args.words.now) =
     subst IsNoAddress same c.in_default.ensures in
-    cause-of-address c.args.words.now c.no_address.result c.no_address.ensures
-    (c.in_ok-found.ensures.taken, none)
+    cause-of-text c.args.words.now c.no_address.result c.no_address.ensures
+    (inl (c.in_ok-found.ensures.taken, none))
