@@ -1,0 +1,4 @@
+pub mod Spelled
+pub mod Rows
+pub mod Outcomes
+pub mod Wholes

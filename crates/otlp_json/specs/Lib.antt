@@ -1,0 +1,6 @@
+pub mod Names
+pub mod Numbers
+pub mod Leaves
+pub mod Fronts
+pub mod Bodies
+pub mod Writing

@@ -1,0 +1,6 @@
+//! The tests, and what they share.
+
+mod equal;
+mod faults;
+mod reads;
+mod refusals;
