@@ -14,6 +14,7 @@ DRIP = 0.05  # seconds from one byte that drips to the next
 POST = "POST /v1/traces"
 TYPE = "Content-Type: application/x-protobuf\r\n"
 CLOSE = "Connection: close\r\n"
+KEEP = "Connection: keep-alive\r\n"
 ANSWERS = {
     200: ("200 OK", ""),
     400: ("400 Bad Request", ""),
@@ -97,13 +98,14 @@ def request_from(link):
 
 
 class Server:
-    """Takes connections one after another, and answers each by the next of the replies, and later
-    ones by none.
+    """Takes connections one after another, and answers each request by the next of the replies, and
+    later ones by none. A connection has one request, unless it is "kept".
 
     A reply is bytes, a pair of bytes, a function that makes them, `SILENCE`, or None: the
     connection breaks off. The second bytes of a pair drip after the first ones, until the other end
     closes the connection. By the way, other replies go out "whole", "byte by byte", and then either
-    the connection ends, or it is "breaking off", or "staying" until the other end closes it.
+    the connection ends, or it is "breaking off", or "staying" until the other end closes it, or
+    "kept" for further requests until then.
     """
 
     def __init__(self, replies, way, host=HOST):
@@ -111,7 +113,7 @@ class Server:
         self.listener = socket.create_server((host, 0), family=family)
         self.port = self.listener.getsockname()[1]
         self.replies, self.way = replies, way
-        self.requests, self.moments = [], []
+        self.requests, self.moments, self.connections = [], [], 0
         self.thread = threading.Thread(target=self.serve, daemon=True)
         self.thread.start()
 
@@ -123,17 +125,25 @@ class Server:
             except OSError:
                 return
             came = time.monotonic()
+            self.connections += 1
             with link:
                 link.settimeout(PATIENCE)
                 link.setsockopt(socket.IPPROTO_TCP, socket.TCP_NODELAY, 1)
-                try:
-                    self.requests.append(request_from(link))
-                except OSError as error:
-                    self.requests.append(repr(error).encode())
-                self.moments.append((came, time.monotonic()))
-                # (What the other end doesn't read of a reply breaks the connection off.)
-                with contextlib.suppress(OSError):
-                    self.answer(link, len(self.requests))
+                while self.take(link, came):
+                    came = time.monotonic()
+
+    def take(self, link, came):
+        """Reads a request and answers it. Whether another one follows on the connection."""
+        try:
+            self.requests.append(request_from(link))
+        except OSError as error:
+            self.requests.append(repr(error).encode())
+        self.moments.append((came, time.monotonic()))
+        # (What the other end doesn't read of a reply breaks the connection off.)
+        with contextlib.suppress(OSError):
+            self.answer(link, len(self.requests))
+            return self.way == "kept" and bool(link.recv(1, socket.MSG_PEEK))
+        return False
 
     def answer(self, link, turn):
         """Sends the reply with this number, and waits until the other end closes."""
@@ -155,6 +165,8 @@ class Server:
         if self.way == "breaking off":
             break_off(link)
             return
+        if self.way == "kept":
+            return
         if self.way != "staying":
             link.shutdown(socket.SHUT_WR)
         to_the_end(link)
@@ -166,5 +178,6 @@ class Server:
         self.thread.join(PATIENCE)
 
     def waits(self):
-        """The seconds from each answer to the next connection."""
+        """The seconds from each request to the next connection, or to the next request of a kept
+        one."""
         return [after[0] - before[1] for before, after in zip(self.moments, self.moments[1:])]

@@ -4,5 +4,5 @@
 //! spans can't be forgotten and whose calls don't fail.
 pub use thread_tracer::{Refused, ThreadSpan, ThreadTrace, ThreadTracer};
 pub use traced_service::{
-    ServiceSetup, ThreadDone, TracedDone, TracedWork, serve_from_environment,
+    ServiceLog, ServiceSetup, ThreadDone, TracedDone, TracedWork, serve_from_environment,
 };

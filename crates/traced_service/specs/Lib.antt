@@ -1,2 +1,3 @@
 pub mod Setups
 pub mod Sums
+pub mod Lines

@@ -2,25 +2,26 @@
 ghost use Rattle.std.specs.Prelude.{◌≡◌};
 ghost use Rattle.traced_service.specs.Sums.{Sums, left_out_after, not_started_after};
 
+use crate::log::{ServiceLog, WorkerNames};
 use crate::work::ThreadDone;
 use batch_desk::Totals;
 use batch_service::{Done, Served};
-use drop_ledger::{DropCounts, NameLines};
-use http_exporter::HttpExporter;
+use drop_ledger::DropCounts;
+use http_exporter::ReportsFailure;
 use std::io::{self, Write};
 use std::process::ExitCode;
 use thread_tracer::Refused;
 
 /// What a traced service came to: what its threads gave, what was refused to their spans, and its
-/// end.
+/// end. `E` is the exporter, and `L` what the log is written to.
 #[derive(Drop)]
-pub struct TracedDone<T, R, L> {
+pub struct TracedDone<T, E, L: Write + Drop> {
     /// What each thread came to, in their order.
     pub threads: Vec<ThreadDone<T>>,
     /// What was refused to the spans of all threads. Each count stops at 2^64 - 1.
     pub refused: Refused,
     /// The end of the service: the queue with its counts, the exporter, and the log.
-    pub served: Served<HttpExporter<R>, NameLines<L>>,
+    pub served: Served<E, ServiceLog<L>>,
 }
 
 /// What was refused to the spans of all these threads.
@@ -52,20 +53,35 @@ fn write_count<W: Write>(output: &mut W, name: &str, count: u64) -> io::Result<(
     writeln!(output, "{name} {count}")
 }
 
-impl<T, R, L> TracedDone<T, R, L> {
+impl<T, E, L: Write + Drop> TracedDone<T, E, L> {
     /// By what the service gave.
-    pub(crate) fn new(
-        done: Done<ThreadDone<T>, HttpExporter<R>, NameLines<L>>,
-    ) -> TracedDone<T, R, L>
+    pub(crate) fn new<R: Drop>(
+        done: Done<ThreadDone<T>, E, WorkerNames<L, R>>,
+    ) -> TracedDone<T, E, L>
         ensures threads { result.threads ≡ done.outputs }
-        ensures served { result.served ≡ done.served }
+        ensures desk { result.served.desk ≡ done.served.desk }
+        ensures exporter { result.served.exporter ≡ done.served.exporter }
+        ensures end { result.served.end ≡ done.served.end }
         ensures refused { Sums done.outputs.items result.refused }
     {
-        let refused = refused_of(&done.outputs);
+        let Done { outputs, served } = done;
+        let Served {
+            desk,
+            exporter,
+            sink,
+            end,
+        } = served;
+        let WorkerNames { log, rt: _ } = sink;
+        let refused = refused_of(&outputs);
         TracedDone {
-            threads: done.outputs,
+            threads: outputs,
             refused,
-            served: done.served,
+            served: Served {
+                desk,
+                exporter,
+                sink: log,
+                end,
+            },
         }
     }
 
@@ -81,7 +97,10 @@ impl<T, R, L> TracedDone<T, R, L> {
     /// # Errors
     ///
     /// That of the first write that failed.
-    pub fn write_counts<W: Write>(&self, output: &mut W) -> io::Result<()> {
+    pub fn write_counts<W: Write>(&self, output: &mut W) -> io::Result<()>
+    where
+        E: ReportsFailure,
+    {
         let (totals, fates) = (self.totals(), self.totals().fates);
         if self.refused.not_started > 0 {
             write_count(output, "spans not started", self.refused.not_started)?;

@@ -4,9 +4,12 @@
 #![tactic(auto)]
 
 mod counts;
+mod left;
+mod log;
 mod setup;
 mod work;
 
 pub use counts::TracedDone;
+pub use log::ServiceLog;
 pub use setup::{ServiceSetup, serve_from_environment};
 pub use work::{ThreadDone, TracedWork};

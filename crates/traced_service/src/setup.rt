@@ -16,11 +16,12 @@ ghost use Rattle.traced_service.specs.Sums.{Sums};
 ghost use Rattle.traced_service.specs.Setups.{IsOf, sampler_of, setup_of};
 
 use crate::counts::TracedDone;
+use crate::log::{ServiceLog, WorkerNames};
 use crate::work::{Traced, TracedWork};
 use batch_processor::BatchConfig;
 use batch_service::{StartFault, refusal_of, serve};
 use drop_ledger::NameLines;
-use http_exporter::HttpExporter;
+use http_exporter::{HttpExporter, KeptExporter, TcpDial};
 use otel_settings::{
     Environment, NamedSampler, SamplerName, SettingFault, Settings, settings_of_environment,
 };
@@ -32,7 +33,7 @@ use rand::rngs::StdRng;
 use rand_core::Rng;
 use retry_core::RetryConfig;
 use std::alloc::Global;
-use std::io::Write;
+use std::io::{LineWriter, Write};
 use std::net::{Net, TcpListener, TcpStream};
 use std::random::RandomSource;
 use std::sync::{Arc, Wait};
@@ -153,9 +154,14 @@ impl ServiceSetup {
     }
 
     /// Serves with this number of threads, 1 to [`MAX_THREADS`](batch_service::MAX_THREADS): does
-    /// the work of each, exports its spans over HTTP, and stops once all work is done, as
-    /// [`batch_service::serve`]. A line for each goes to the log: first for what the settings have
-    /// that can't be used, and then for each span that isn't delivered.
+    /// the work of each, exports its spans over HTTP, over a connection that is kept as long as
+    /// replies let it, and stops once all work is done, as [`batch_service::serve`]. A line for each
+    /// goes to the log: first for what the settings have that can't be used, and then for each span
+    /// that isn't delivered.
+    ///
+    /// Threads that drop spans write their lines, 64 at a time, and wait for each other then (see
+    /// [`NamingPass`](batch_service::NamingPass)); the worker writes the others between its turns.
+    /// So a log that takes no line for a while holds up these threads.
     ///
     /// # Errors
     ///
@@ -163,10 +169,10 @@ impl ServiceSetup {
     pub fn serve<R, L, W>(
         self,
         rt: R,
-        mut log: L,
+        log: L,
         threads: usize,
         work: &W,
-    ) -> Result<TracedDone<W::Output, R, L>, StartFault>
+    ) -> Result<TracedDone<W::Output, KeptExporter<TcpDial<R>>, L>, StartFault>
     where
         R: Threads + Wait + RandomSource + Clock + AllocGlobal,
         R: Net<Listener = TcpListener, Stream = TcpStream>,
@@ -193,23 +199,44 @@ impl ServiceSetup {
         if let Some(fault) = refusal_of(&config, threads) {
             return Err(fault);
         }
-        report(&mut log, &faults);
         let alloc = rt.alloc();
+        let log = open_log(alloc, log, &faults)?;
         let seed = draw_seed(&rt)?;
         let exporter = HttpExporter::new(alloc, rt, target, timeout_ms);
-        let exporter = exporter.reading_after_a_stop();
+        let exporter = KeptExporter::new(exporter.reading_after_a_stop());
         let tracer = provider.tracer(scope);
+        let names = WorkerNames {
+            log: log.try_clone()?,
+            rt,
+        };
         let traced = Traced {
             rt,
             alloc,
             tracer: &tracer,
             seed,
+            log,
             work,
         };
-        let log = NameLines::new(log);
-        let done = serve(rt, alloc, exporter, log, config, threads, &traced)?;
+        let done = serve(rt, alloc, exporter, names, config, threads, &traced)?;
         Ok(TracedDone::new(done))
     }
+}
+
+/// The log that is written to this writer, with a line for each fault.
+///
+/// # Errors
+///
+/// `OutOfMemory` where memory was refused.
+fn open_log<L>(alloc: Global, log: L, faults: &[SettingFault]) -> Result<ServiceLog<L>, StartFault>
+where
+    L: Write + Drop,
+    ensures { IfErr result (λ fault. fault ≡ faults.OutOfMemory) }
+{
+    let Ok(mut lines) = LineWriter::new(alloc, log) else {
+        return Err(StartFault::OutOfMemory);
+    };
+    report(&mut lines, faults);
+    Ok(ServiceLog::new(alloc, NameLines::new(lines))?)
 }
 
 /// Writes a line for each fault. A line that can't be written is left out.
@@ -246,7 +273,7 @@ pub fn serve_from_environment<R, L, W>(
     name: &str,
     threads: usize,
     work: &W,
-) -> Result<TracedDone<W::Output, R, L>, StartFault>
+) -> Result<TracedDone<W::Output, KeptExporter<TcpDial<R>>, L>, StartFault>
 where
     R: Threads + Wait + RandomSource + Clock + Environment + AllocGlobal,
     R: Net<Listener = TcpListener, Stream = TcpStream>,
