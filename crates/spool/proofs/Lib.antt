@@ -1,0 +1,4 @@
+pub mod RecordLaws
+pub mod ContentLaws
+pub mod DiskLaws
+pub mod PutLaws
