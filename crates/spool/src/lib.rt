@@ -1,2 +1,11 @@
-//! A spool: the files in which an agent keeps the bodies that it answered for.
+//! A spool: the files in which an agent keeps the bodies that it answered for, until they are
+//! delivered. What is put is on the disk before the call answers, so a crash at any moment leaves it;
+//! a delivery that was noted is not forgotten.
 #![tactic(auto)]
+
+mod error;
+
+mod records;
+mod synced;
+
+pub use error::SpoolError;
