@@ -15,6 +15,7 @@ use Rattle.spool.specs.Records.{record_bytes, note_size}
 use Rattle.spool.specs.Spools.{bodies_in, notes_in, is_whole, end_of, greatest, done_to, next_number}
 use Rattle.spool.specs.Spools.{waiting_in, waiting_from, waiting, numbered_from, CanGrow, reserved}
 use Rattle.spool.specs.Spools.{LeftByPut, LeftByNote}
+use Rattle.spool.specs.Settled.{IsSame, last_done}
 use Rattle.spool.proofs.RecordLaws.{read-on, read-nil, read-spelled, read-cut, nil-length, length-record}
 use Rattle.spool.proofs.ContentLaws.{bodies-put, notes-put, bodies-note, notes-note, enumerate-append}
 use Rattle.spool.proofs.ContentLaws.{length-enumerate, drop-numbered}
@@ -253,14 +254,8 @@ done-is : (disk : Disk) → done_to disk ≡ greatest (flat_map notes_in disk)
 unfolding done_to
 done-is disk = refl
 
--- What is there once a file was made with the next number.
-pub record Made (disk : Disk) (left : Disk) : Type 0 where
-  pub waits : (n : ℕ) → waiting_from n left ≡ waiting_from n disk
-  pub done : done_to left ≡ done_to disk
-  pub next : next_number left ≡ next_number disk
-  pub size : disk_size left ≡ disk_size disk
-
-pub made : (disk : Disk) → Made disk (disk ++ new_file (next_number disk) ∷ [])
+-- A file that is made with the next number changes nothing of what the files mean.
+pub made : (disk : Disk) → IsSame disk (disk ++ new_file (next_number disk) ∷ [])
 unfolding waiting_in bodies_in notes_in next_number
 made disk =
     let file = new_file (next_number disk) in
@@ -297,12 +292,6 @@ number-below front last (inr other) = elim (cases_Bool (is_whole last)) [
 ]
 
 -- ---- a file that is removed
-
--- the greatest number that the newest file notes
-abbrev pub last_done : Disk → ℕ
-last_done [] = 0
-last_done (f ∷ []) = greatest (notes_in f)
-last_done (f ∷ g ∷ disk) = last_done (g ∷ disk)
 
 -- It is noted by all files together.
 pub last-done-below : (disk : Disk) → last_done disk ≤ done_to disk

@@ -3,9 +3,12 @@
 //! a delivery that was noted is not forgotten.
 #![tactic(auto)]
 
+mod calls;
 mod error;
 
 mod records;
+mod state;
 mod synced;
 
 pub use error::SpoolError;
+pub use state::Spool;
