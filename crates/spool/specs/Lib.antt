@@ -1,0 +1,4 @@
+pub mod Records
+pub mod Spools
+pub mod Errors
+pub mod Settled

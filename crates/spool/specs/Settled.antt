@@ -1,0 +1,79 @@
+-- What a spool knows of its files between two calls. (profile)
+use Rattle.std.specs.Prelude.{◌≡◌, ℕ, ◌+◌, ◌*◌, ◌-◌, ◌<◌, ◌≤◌, List, [], ◌∷◌, ◌++◌, length, map}
+use Rattle.std.specs.Prelude.{Option, Some, None, IsSome, min, ◌^◌}
+use Rattle.std.specs.Option.{option_to_list}
+use Rattle.spool_device.specs.Disks.{SpoolFile, Disk, grown, grow_last, disk_size}
+use Rattle.spool_device.specs.Crashes.{Only}
+use Rattle.spool.specs.Spools.{end_of, done_to, next_number, waiting, waiting_from, CanGrow, reserved, notes_in}
+use Rattle.spool.specs.Spools.{greatest}
+use Rattle.spool.specs.declared.state.Segment.{Segment}
+use Rattle.spool.specs.declared.state.Spool.{Spool}
+
+-- the device of a spool
+abbrev pub device_of : {D : Type 0} → Spool D → D
+device_of spool = spool.device
+
+-- how many bytes the files of a spool may have
+abbrev pub limit_of : {D : Type 0} → Spool D → ℕ
+limit_of spool = spool.limit
+
+-- what a spool keeps of a file
+abbrev pub segment_of : SpoolFile → Segment
+segment_of file = record { number = file.number; «end» = end_of file; len = length file.bytes }
+
+-- a segment that has grown by so many bytes, and ends before this number
+abbrev pub grown_by : ℕ → ℕ → Option Segment → Option Segment
+grown_by after len None = None
+grown_by after len (Some segment) = Some (record segment {
+  «end» = after;
+  len = min (segment.len + len) (2 ^ 64 - 1);
+})
+
+-- The files of a spool are as it knows them, and all of that is on the disk.
+pub record IsSettled {D : Type 0} (files : D → Disk) (moment : D → ℕ)
+    (left_at : D → ℕ → Disk → Type 0) (spool : Spool D) : Type 0 where
+  pub segments : spool.older.items ++ option_to_list spool.growing ≡ map segment_of (files spool.device)
+  pub done : spool.done ≡ done_to (files spool.device)
+  pub next : spool.next ≡ next_number (files spool.device)
+  pub size : spool.size ≡ disk_size (files spool.device)
+  pub grows : IsSome spool.growing → CanGrow (files spool.device)
+  pub shut : spool.growing ≡ None → (front : Disk) (last : SpoolFile)
+      → files spool.device ≡ front ++ last ∷ [] → last.number < next_number (files spool.device)
+  pub durable : Only (files spool.device) (left_at spool.device (moment spool.device))
+
+-- The same bodies wait, with the same numbers, and the files are as large.
+pub record IsSame (disk left : Disk) : Type 0 where
+  pub waits : (number : ℕ) → waiting_from number left ≡ waiting_from number disk
+  pub done : done_to left ≡ done_to disk
+  pub next : next_number left ≡ next_number disk
+  pub size : disk_size left ≡ disk_size disk
+
+-- With these bytes at the end of the newest file, the files have this next number, note this number
+-- and are as large as that, and the newest file can grow on.
+pub record Grows (disk : Disk) (more : List ℕ) (next done size : ℕ) : Type 0 where
+  pub can : CanGrow disk
+  pub next_is : next ≡ next_number (grow_last more disk)
+  pub done_is : done ≡ done_to (grow_last more disk)
+  pub size_is : size ≡ disk_size (grow_last more disk)
+  pub still : CanGrow (grow_last more disk)
+  pub end : end_of (grown more can.last) ≡ next
+
+-- the greatest number that the newest file notes
+abbrev pub last_done : Disk → ℕ
+last_done [] = 0
+last_done (file ∷ []) = greatest (notes_in file)
+last_done (file ∷ next ∷ disk) = last_done (next ∷ disk)
+
+-- The newest file notes all that is noted.
+abbrev pub IsNoted : Disk → Type 0
+IsNoted disk = last_done disk ≡ done_to disk
+
+-- The first segment has only bodies that are noted as delivered.
+abbrev pub FirstIsDone : List Segment → ℕ → Type 0
+FirstIsDone segments done =
+    (first : Segment) × (others : List Segment) × (segments ≡ first ∷ others) × (first.«end» ≤ done)
+
+-- The same bodies wait, and the files are no larger.
+pub record IsNoLarger (disk left : Disk) : Type 0 where
+  pub waits : waiting left ≡ waiting disk
+  pub size : disk_size left ≤ disk_size disk

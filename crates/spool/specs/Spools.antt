@@ -1,0 +1,94 @@
+-- What the files of a spool mean. (profile)
+use Rattle.std.specs.Prelude.{◌≡◌, ◌⊎◌, ℕ, ◌+◌, ◌-◌, ◌*◌, ◌<◌, ◌≤◌, ◌==◌, max, Bool, List, [], ◌∷◌, ◌++◌}
+use Rattle.std.specs.Prelude.{length, map, take, drop, flat_map, filter, sum_by, nat_le, true}
+use Rattle.std.specs.Prelude.{if◌then◌else◌}
+use Rattle.std.specs.List.{enumerate_from}
+use Rattle.spool_device.specs.Disks.{SpoolFile, Disk, disk_size}
+use Rattle.spool.specs.Records.{contents, rest, bodies, notes, note_size}
+
+-- ---- one file
+
+-- the bodies of a file, in order
+unfoldable pub bodies_in : SpoolFile → List (List ℕ)
+bodies_in file = bodies (contents file.bytes)
+
+-- the numbers that a file notes
+unfoldable pub notes_in : SpoolFile → List ℕ
+notes_in file = notes (contents file.bytes)
+
+-- whether all bytes of a file are records
+unfoldable pub is_whole : SpoolFile → Bool
+is_whole file = length (rest file.bytes) == 0
+
+-- The number after those of a file's bodies: these are numbered from the file's own number on. What
+-- isn't read at its end has taken one number.
+unfoldable pub end_of : SpoolFile → ℕ
+unfolding bodies_in is_whole
+end_of file = file.number + length (bodies_in file) + (if is_whole file then 0 else 1)
+
+-- ---- all files
+
+-- the greatest of these, or 0
+abbrev pub greatest : List ℕ → ℕ
+greatest [] = 0
+greatest (x ∷ xs) = max x (greatest xs)
+
+-- All bodies with lower numbers were noted as delivered: the greatest number that is noted.
+unfoldable pub done_to : Disk → ℕ
+done_to disk = greatest (flat_map notes_in disk)
+
+-- the number that no body has yet, nor a higher one
+unfoldable pub next_number : Disk → ℕ
+next_number disk = max (done_to disk) (greatest (map end_of disk))
+
+-- the bodies of a file with this number or a higher one, each with its number
+unfoldable pub waiting_in : ℕ → SpoolFile → List (ℕ × List ℕ)
+waiting_in number file = drop (number - file.number) (enumerate_from file.number (bodies_in file))
+
+-- the same of all files, in order
+unfoldable pub waiting_from : ℕ → Disk → List (ℕ × List ℕ)
+waiting_from number disk = flat_map (waiting_in number) disk
+
+-- The bodies that wait, each with its number, in order: those that were put and were not noted as
+-- delivered.
+unfoldable pub waiting : Disk → List (ℕ × List ℕ)
+waiting disk = waiting_from (done_to disk) disk
+
+-- how many bytes are not read
+unfoldable pub damaged_bytes : Disk → ℕ
+damaged_bytes disk = sum_by (λ file. length (rest file.bytes)) disk
+
+-- How many bytes the files have, and may have once more notes were written: each note raises the
+-- number up to which all is noted.
+unfoldable pub reserved : Disk → ℕ
+reserved disk = disk_size disk + note_size * (next_number disk - done_to disk)
+
+-- those with this number or a higher one
+abbrev pub numbered_from : ℕ → List (ℕ × List ℕ) → List (ℕ × List ℕ)
+numbered_from number bodies = filter (λ body. nat_le number body.0) bodies
+
+-- The newest file can grow: all its bytes are records, and the next number is the one after its
+-- bodies.
+pub record CanGrow (disk : Disk) : Type 0 where
+  pub front : Disk
+  pub last : SpoolFile
+  pub split : disk ≡ front ++ last ∷ []
+  pub whole : is_whole last ≡ true
+  pub end : end_of last ≡ next_number disk
+
+-- ---- crashes
+
+-- What a crash during a put leaves: what waited, and some of the bodies, the first ones, none, some or
+-- all, each of them whole, with the numbers that they are given. The files stay within the limit, if
+-- they were.
+pub record LeftByPut (disk : Disk) (bodies : List (List ℕ)) (limit : ℕ) (left : Disk) : Type 0 where
+  pub count : ℕ
+  pub few : count ≤ length bodies
+  pub waits : waiting left ≡ waiting disk ++ enumerate_from (next_number disk) (take count bodies)
+  pub within : disk_size left ≤ max limit (disk_size disk)
+
+-- What a crash leaves while it is noted that all bodies with lower numbers were delivered: what
+-- waited, with those bodies or without them. The files stay within what was reserved.
+pub record LeftByNote (disk : Disk) (number : ℕ) (left : Disk) : Type 0 where
+  pub waits : (waiting left ≡ waiting disk) ⊎ (waiting left ≡ numbered_from number (waiting disk))
+  pub within : disk_size left ≤ reserved disk

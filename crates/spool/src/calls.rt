@@ -1,0 +1,54 @@
+//! The calls of a spool: putting bodies, and noting deliveries.
+ghost use Rattle.std.specs.Prelude.{◌≡◌, ◌⊎◌, ℕ, ◌+◌, ◌-◌, ◌*◌, ◌^◌, ◌<◌, ◌≤◌, List, [], ◌∷◌, ◌++◌, length, map};
+ghost use Rattle.std.specs.Prelude.{IfOk, OnOk, IsErrOf};
+ghost use Rattle.std.specs.List.{enumerate_from};
+ghost use Rattle.spool_device.specs.Crashes.{LeavesOnly};
+ghost use Rattle.spool.specs.Spools.{waiting, next_number, reserved, numbered_from, LeftByPut, LeftByNote};
+ghost use Rattle.spool.specs.Settled.{IsSettled, device_of, limit_of};
+
+use crate::records::{bodies_record, note_record};
+use crate::state::room_for;
+use crate::{Spool, SpoolError};
+use spool_device::Device;
+use std::alloc::Global;
+
+impl<D: Device> Spool<D> {
+    /// Puts bodies, in this order, after those that wait, and syncs once. It answers the number of the
+    /// first one; the others have those after it. From then on a crash at any moment leaves each of
+    /// them until its delivery was noted. A crash before leaves some of them, the first ones, none,
+    /// some or all, each whole.
+    ///
+    /// # Errors
+    ///
+    /// `Full`: with these bodies, and notes of their deliveries, the files would pass the limit; or a
+    /// body has 2^32 - 1 bytes or more, or there have been 2^63 bodies. `Memory`, `Failed`. After
+    /// `Failed` or `Memory` open the spool again: it has some of the bodies, or none.
+    pub fn put(&mut self, alloc: Global, bodies: &[Vec<u8>]) -> Result<u64, SpoolError>
+        requires { D.is_known → IsSettled D.files D.moment D.left_at self.old }
+        ensures settled { OnOk result (D.is_known → IsSettled D.files D.moment D.left_at self.new) }
+        ensures waiting { IfOk result (λ first. D.is_known → waiting (D.files (device_of self.new))
+            ≡ waiting (D.files (device_of self.old)) ++ enumerate_from first (map (λ body. body.items) bodies.now)) }
+        ensures bound { OnOk result (D.is_known
+            → reserved (D.files (device_of self.new)) ≤ limit_of self.new) }
+        ensures limit { limit_of self.new ≡ limit_of self.old }
+        ensures crash { D.is_known
+            → LeavesOnly D.moment D.left_at (device_of self.old) (device_of self.new)
+            (LeftByPut (D.files (device_of self.old)) (map (λ body. body.items) bodies.now) (limit_of self.old)) }
+    {
+        let bytes = bodies_record(alloc, &self.table, bodies)?;
+        let Some((size, next)) = room_for(
+            self.limit,
+            self.size,
+            self.next,
+            self.done,
+            bytes.len() as u64,
+            bodies.len() as u64,
+        ) else {
+            return Err(SpoolError::Full);
+        };
+        self.make_open(bytes.len() as u64)?;
+        let first = self.next;
+        self.write(&bytes, next, self.done, size)?;
+        Ok(first)
+    }
+}

@@ -1,0 +1,50 @@
+//! Why a call of a spool failed.
+ghost use Rattle.std.specs.Prelude.{◌≡◌};
+ghost use Rattle.spool_device.specs.declared.error.DeviceError.TheVariants as device;
+ghost use Rattle.spool.specs.declared.error.SpoolError.TheVariants.{Memory};
+ghost use Rattle.spool.specs.Errors.{spool_error};
+
+use spool_device::DeviceError;
+use std::alloc::{AllocError, AllocFailed};
+use thiserror::Error;
+
+/// Why a call of a spool failed.
+#[derive(Error, Debug, Clone, Copy, PartialEq, Eq)]
+pub enum SpoolError {
+    /// Memory was refused.
+    #[error("there is no memory")]
+    Memory,
+    /// A file, or the folder, could not be read or written.
+    #[error("the files could not be read or written")]
+    Failed,
+    /// The spool has no room.
+    #[error("the spool is full")]
+    Full,
+}
+
+impl From<AllocError> for SpoolError {
+    ghost from_gives = { λ _ e. e ≡ Memory };
+
+    fn from(_: AllocError) -> Self {
+        SpoolError::Memory
+    }
+}
+
+impl<T: Drop> From<AllocFailed<T>> for SpoolError {
+    ghost from_gives = { λ _ e. e ≡ Memory };
+
+    fn from(_: AllocFailed<T>) -> Self {
+        SpoolError::Memory
+    }
+}
+
+impl From<DeviceError> for SpoolError {
+    ghost from_gives = { λ error e. e ≡ spool_error error };
+
+    fn from(error: DeviceError) -> Self {
+        match error {
+            DeviceError::Memory => SpoolError::Memory,
+            DeviceError::Failed => SpoolError::Failed,
+        }
+    }
+}
