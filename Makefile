@@ -7,23 +7,24 @@ PORT ?= 4318
 help: ## List the targets
 	@grep -E '^[a-z]+:.*##' Makefile | sed -E 's/:.*## /: /'
 
-run: ## Build two programs without their proofs, and show a trace; PORT=4318 is where (one and a half to two minutes)
+run: ## Build two programs without their proofs, and show a trace; PORT=4318 is the port (one and a half to two minutes)
 	@tools/run-first $(PORT)
 
-tour: ## Build the other programs and run them, each with a word on what it shows
+tour: ## Build six programs without their proofs and run them, each with a word on what it shows
 	tools/tour
 
 quick: docs ## The documents, and tests and programs before their proofs (some minutes)
 	tools/quick
 
-# The documents, every proof from nothing, wrong bodies (those that this commit chooses), tests,
-# programs, stored runs, hostile bodies, and what must not compile.
-test: docs ## The gate: every proof from nothing, wrong bodies, tests and runs (an hour or more on four processors)
-	rt ci
+# The documents, the tools' own tests, every proof, wrong bodies (those that this commit chooses),
+# tests, programs, stored runs, hostile bodies, and what must not compile. rt ci keeps on this machine
+# what passed, and later proves only what changed and what is above it; rt ci --anew proves all.
+test: docs ## The gate: every proof, wrong bodies, tests and runs (from nothing an hour or more on four processors)
 	tools/lib-test
+	tools/run-runs
+	rt ci
 	tools/wrong-bodies
 	tools/wrong-bodies-test
-	tools/run-runs
 	tools/runs
 	tools/collector-runs
 	tools/demo-runs
@@ -46,7 +47,7 @@ docs: ## Compare the documents with the sources, and write out/DEFINITIONS.md an
 times: ## The gate, and what each crate took of the processors
 	tools/times $(MAKE) test
 
-install: ## Put the programs that make test left built into PREFIX/bin
+install: ## Put the programs that make test left built into PREFIX/bin; PREFIX=~/.local is the default
 	tools/install '$(PREFIX)/bin'
 
 check: ## Prove every crate over what earlier checks kept

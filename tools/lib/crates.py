@@ -43,6 +43,14 @@ def newest(files):
     return max(it.stat().st_mtime_ns for it in files)
 
 
+def is_new(top, program, crate, uses):
+    """Whether a crate's program is there, and newer than the sources of the crate and of those that
+    it uses."""
+    folders = [top / "crates" / name for name in [*below(uses, crate), crate]]
+    files = [it for folder in folders for it in sources_in(folder)]
+    return program.is_file() and newest([program]) > newest([top / "crates.txt", *files])
+
+
 def lines_of(edit):
     """The lines of an edit: the word in front of the colon, and the text after it. Blank lines
     count for nothing."""

@@ -152,11 +152,12 @@ def frame_of(text):
 
 
 def laws_in(top, crate):
-    """The laws of a crate of laws, which are its public functions: the name of each, what its
-    comment says, and the names of the definitions in its clauses."""
+    """The laws of a crate, which are the public functions of a crate of laws, or of the file
+    laws.rt of another one: the name of each, what its comment says, and the names of the
+    definitions in its clauses."""
     law = r"((?:///.*\n)+)pub fn (\w+)\(\)\n((?: .*\n)*)"
     folder = top / "crates" / crate / "src"
-    for file in sorted(folder.glob("*.rt")) if crate.startswith("law_") else ():
+    for file in sorted(folder.glob("*.rt" if crate.startswith("law_") else "laws.rt")):
         for words, name, clauses in re.findall(law, file.read_text(encoding="utf-8")):
             said = " ".join(it.removeprefix("///").strip() for it in words.split("\n"))
             yield name, " ".join(said.split()), re.findall(r"\b[A-Z]\w*", clauses)
@@ -166,7 +167,8 @@ def law_items(top, crate, found):
     """The lines of the laws of a crate."""
     for name, words, named in laws_in(top, crate):
         cited = [f"`{it}`" for it in dict.fromkeys(named) if (crate, it) in found]
-        yield filled(f"`{name}`: {words} Clauses: {', '.join(cited)}.", "- ")
+        clauses = f" Clauses: {', '.join(cited)}." if cited else ""
+        yield filled(f"`{name}`: {words}{clauses}", "- ")
 
 
 def about(top, crate):

@@ -5,6 +5,8 @@ import pathlib
 import subprocess
 import sys
 
+from lib.crates import is_new, uses_of
+
 TOP = pathlib.Path(__file__).resolve().parents[2]
 TOOL = pathlib.Path(sys.argv[0]).name
 PATIENCE = 1_200  # seconds after which a run is given up: the machine may be slow
@@ -39,11 +41,15 @@ def said_of(error):
 
 def program_of(words, crate, arguments=""):
     """The path of a built program: the first word, or the crate's own. If it is not there, the tool
-    ends, and says how to build it."""
-    path = os.path.abspath(words[0] if words else TOP / "crates" / crate / "out" / crate)
+    ends, and says how to build it. It says so, too, if the crate's own is older than its
+    sources."""
+    own = TOP / "crates" / crate / "out" / crate
+    path = os.path.abspath(words[0] if words else own)
     if not os.access(path, os.X_OK):
         command = f"cd crates/{crate} && rt run{arguments and ' -- '}{arguments}"
-        sys.exit(f"{TOOL}: {path} is not built; build it by: {command}")
+        sys.exit(f"{TOOL}: {path} is not built; build it (rt run proves it first) by: {command}")
+    if not words and not is_new(TOP, own, crate, uses_of(TOP)):
+        print(f"{TOOL}: {path} is older than its sources", file=sys.stderr, flush=True)
     return path
 
 

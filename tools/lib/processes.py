@@ -1,23 +1,74 @@
 """Processes and what they listen at (Linux, /proc)."""
+import collections
+import contextlib
 import os
 import pathlib
 import re
+import threading
 import time
 
-PATIENCE = 300  # seconds after which a connection isn't read: the machine may be slow
+from lib.harness import Wrong
+
+PATIENCE = 300  # seconds after which nothing comes any more: the machine may be slow
 LISTENS = "0A"  # the state of a socket that listens, in /proc/net/tcp
+TICKS = os.sysconf("SC_CLK_TCK")
+
+# Of a process: its state (`Z` where only its end is to be fetched), its parent, when it began, and
+# the processor seconds that it has taken so far.
+Stat = collections.namedtuple("Stat", "state parent began seconds")
+
+
+def pids():
+    """The numbers of all processes."""
+    return [int(it) for it in os.listdir("/proc") if re.fullmatch("[0-9]+", it)]
+
+
+def text_of(pid, name):
+    """What the system has of a process in a file of this name. It fails where there is none."""
+    return pathlib.Path(f"/proc/{pid}/{name}").read_text(encoding="utf-8", errors="replace")
+
+
+def stat_of(pid):
+    """What is said of a process (proc(5), "/proc/pid/stat")."""
+    fields = text_of(pid, "stat").rpartition(")")[2].split()
+    seconds = (int(fields[11]) + int(fields[12])) / TICKS
+    return Stat(fields[0], int(fields[1]), int(fields[19]), seconds)
+
+
+def stats():
+    """What is said of each process that is there."""
+    found = {}
+    for pid in pids():
+        with contextlib.suppress(OSError):
+            found[pid] = stat_of(pid)
+    return found
+
+
+def memory_of(pid, name):
+    """How many kB of memory of a kind a process has: `VmRSS` what it has, `VmHWM` the most that it
+    had, `VmSize` what it may address. None once it has ended."""
+    found = re.search(rf"{name}:\s*(\d+) kB", text_of(pid, "status"))
+    return int(found[1]) if found else 0
+
+
+def first_line(process, pattern, patience=PATIENCE):
+    """What a pattern finds in the first line that a process prints. If there is none in time, or
+    another one, the process is ended."""
+    late = threading.Timer(patience, process.kill)
+    late.start()
+    line = process.stdout.readline()
+    late.cancel()
+    found = re.fullmatch(pattern, line)
+    if not found:
+        process.kill()
+        process.wait()
+        raise Wrong(f"{line!r} is printed first")
+    return found
 
 
 def parents():
     """Each process with its parent."""
-    found = {}
-    for pid in filter(str.isdigit, os.listdir("/proc")):
-        try:
-            text = pathlib.Path(f"/proc/{pid}/stat").read_text(encoding="utf-8", errors="replace")
-            found[int(pid)] = int(text.rpartition(")")[2].split()[1])
-        except OSError:
-            pass
-    return found
+    return {pid: it.parent for pid, it in stats().items()}
 
 
 def descendants(top):

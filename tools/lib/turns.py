@@ -33,7 +33,10 @@ def commit_of(top):
 
 
 def changed_crates(top):
-    """The crates that differ from the commit before, as far as git knows it."""
+    """The crates that differ from the commit before, or None where git knows no commit before, as
+    in a clone that has one alone."""
+    if not git(top, "rev-parse", "--quiet", "--verify", "HEAD^"):
+        return None
     names = git(top, "diff", "--name-only", "HEAD^")
     return set(re.findall(r"(?m)^crates/(\w+)/", names))
 

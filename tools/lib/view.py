@@ -1,8 +1,6 @@
 """Runs of trace-view, links to it, and bodies with spans."""
 import json
 import os
-import pathlib
-import re
 import resource
 import socket
 import subprocess
@@ -10,12 +8,13 @@ import threading
 
 from lib.harness import Wrong, limited
 from lib.http import HOST, TYPE
+from lib.processes import first_line, memory_of, stat_of
 from lib.wire import fixed64, number, piece
 
-TICKS = os.sysconf("SC_CLK_TCK")
 PATIENCE = 300  # seconds after which a link gives up: the machine may be slow
 # What connections have where no row asks for less, so that none ends since the machine is slow.
 LONG = {"--idle-seconds": "3600", "--request-seconds": "3600"}
+LISTENING = rb"listening on http://127\.0\.0\.1:(\d+)\n"
 TRACE = 0x0AF7651916CD43DD8448EB211C80319C
 PATH = f"/trace/{TRACE:032x}"
 
@@ -30,11 +29,7 @@ class View:
         pipes = {"stdout": subprocess.PIPE, "stderr": subprocess.PIPE}
         self.process = subprocess.Popen(words, **pipes)
         self.reported = b""
-        line = self.process.stdout.readline()
-        found = re.fullmatch(rb"listening on http://127\.0\.0\.1:(\d+)\n", line)
-        if not found:
-            raise Wrong(f"{line!r} is printed first")
-        self.port = int(found[1])
+        self.port = int(first_line(self.process, LISTENING)[1])
         self.listener = threading.Thread(target=self.listen, daemon=True)
         self.listener.start()
 
@@ -51,31 +46,24 @@ class View:
         for part in iter(lambda: self.process.stderr.read1(4096), b""):
             self.reported += part
 
-    def status_of(self, *names):
-        """What the system says of it, of these names, in kB (Linux)."""
-        text = pathlib.Path(f"/proc/{self.process.pid}/status").read_text(encoding="utf-8")
-        return [int(re.search(rf"{name}:\s*(\d+) kB", text)[1]) for name in names]
-
     def peak(self):
         """The most kB of memory that it had so far (Linux)."""
-        return self.status_of("VmHWM")[0]
+        return memory_of(self.process.pid, "VmHWM")
 
     def seconds(self):
         """The processor seconds that it took so far (Linux)."""
-        text = pathlib.Path(f"/proc/{self.process.pid}/stat").read_text(encoding="utf-8")
-        fields = text.rpartition(")")[2].split()
-        return (int(fields[11]) + int(fields[12])) / TICKS
+        return stat_of(self.process.pid).seconds
 
     def resident(self):
         """The kB of memory that it has (Linux)."""
-        return self.status_of("VmRSS")[0]
+        return memory_of(self.process.pid, "VmRSS")
 
     def leave(self, room=None):
         """Leaves it so many bytes of memory above what it has, or as many as it wants (Linux)."""
         _, limit = resource.prlimit(self.process.pid, resource.RLIMIT_AS)
         hard = limit
         if room is not None:
-            limit = self.status_of("VmSize")[0] * 1024 + room
+            limit = memory_of(self.process.pid, "VmSize") * 1024 + room
         resource.prlimit(self.process.pid, resource.RLIMIT_AS, (limit, hard))
 
     def descriptors(self):
