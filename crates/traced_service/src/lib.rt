@@ -4,7 +4,7 @@
 #![tactic(auto)]
 
 mod counts;
-mod left;
+mod deferred;
 mod log;
 mod setup;
 mod work;

@@ -4,7 +4,7 @@ ghost use Rattle.otlp_span.specs.Dropped.{entry_view};
 ghost use Rattle.drop_ledger.specs.Lines.{TakesLine};
 ghost use Rattle.traced_service.specs.Lines.{line_of};
 
-use crate::left::LeftNames;
+use crate::deferred::DeferredNames;
 use drop_ledger::{NameLines, NameSink};
 use otlp_span::Entry;
 use std::alloc::{AllocError, Global};
@@ -18,8 +18,8 @@ pub(crate) type Lines<L> = NameLines<LineWriter<L>>;
 #[derive(Drop)]
 struct Shared<L: Write + Drop> {
     lines: Mutex<Lines<L>>,
-    /// Names that the worker left, since a thread was writing.
-    left: Mutex<LeftNames>,
+    /// Names that the worker left to a thread that was writing.
+    deferred: Mutex<DeferredNames>,
 }
 
 /// Writes the line of a name, if no write has failed.
@@ -40,27 +40,26 @@ impl<L: Write + Drop> Shared<L> {
         self.settle(rt);
     }
 
-    /// Writes a name at once where no other thread writes. Else it is left to that thread, unless
-    /// as many are left as may be.
-    fn write_or_leave<R: Wait>(&self, rt: &R, entry: Entry) {
-        if self.left.lock(rt).leave(entry) {
+    /// Writes a name at once where no other thread writes. Else it is deferred, unless too many are.
+    fn write_or_defer<R: Wait>(&self, rt: &R, entry: Entry) {
+        if self.deferred.lock(rt).defer(entry) {
             self.settle(rt);
         } else {
             self.write(rt, entry);
         }
     }
 
-    /// Writes the names that are left, unless another thread writes. That one comes here once it
-    /// has given the lock back, and so sees all that were left until then.
+    /// Writes the names that are deferred, unless another thread writes. That one comes here once it
+    /// has given the lock back, and so sees all that were deferred until then.
     fn settle<R: Wait>(&self, rt: &R) {
         for _ in 0..u64::MAX {
-            if self.left.lock(rt).is_empty() {
+            if self.deferred.lock(rt).is_empty() {
                 return;
             }
             let Some(mut lines) = self.lines.try_lock() else {
                 return;
             };
-            if let Some(entry) = self.left.lock(rt).next() {
+            if let Some(entry) = self.deferred.lock(rt).next() {
                 write_name(&mut *lines, entry);
             }
         }
@@ -77,9 +76,9 @@ pub struct ServiceLog<L: Write + Drop> {
 impl<L: Write + Drop> ServiceLog<L> {
     /// Writes to this writer.
     pub(crate) fn new(alloc: Global, lines: Lines<L>) -> Result<ServiceLog<L>, AllocError> {
-        let left = Mutex::new(LeftNames::new(alloc)?);
+        let deferred = Mutex::new(DeferredNames::new(alloc)?);
         let lines = Mutex::new(lines);
-        let shared = Arc::new(alloc, Shared { lines, left })?;
+        let shared = Arc::new(alloc, Shared { lines, deferred })?;
         Ok(ServiceLog { shared })
     }
 
@@ -109,11 +108,11 @@ impl<L: Write + Drop, R: Wait> NameSink for WorkerNames<L, R> {
     ghost named = { λ _. None };
 
     fn take_dropped(&mut self, entry: Entry) {
-        self.log.shared.write_or_leave(&self.rt, entry);
+        self.log.shared.write_or_defer(&self.rt, entry);
     }
 
     fn take_lost(&mut self, entry: Entry) {
-        self.log.shared.write_or_leave(&self.rt, entry);
+        self.log.shared.write_or_defer(&self.rt, entry);
     }
 }
 

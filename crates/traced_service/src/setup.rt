@@ -222,12 +222,12 @@ impl ServiceSetup {
     }
 }
 
-/// The log that is written to this writer, with a line for each fault.
+/// The log that is written to this writer, with a line for each of these faults.
 ///
 /// # Errors
 ///
 /// `OutOfMemory` where memory was refused.
-fn open_log<L>(alloc: Global, log: L, faults: &[SettingFault]) -> Result<ServiceLog<L>, StartFault>
+fn open_log<L>(alloc: Global, log: L, told: &[SettingFault]) -> Result<ServiceLog<L>, StartFault>
 where
     L: Write + Drop,
     ensures { IfErr result (λ fault. fault ≡ faults.OutOfMemory) }
@@ -235,7 +235,7 @@ where
     let Ok(mut lines) = LineWriter::new(alloc, log) else {
         return Err(StartFault::OutOfMemory);
     };
-    report(&mut lines, faults);
+    report(&mut lines, told);
     Ok(ServiceLog::new(alloc, NameLines::new(lines))?)
 }
 

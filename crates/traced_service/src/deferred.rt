@@ -1,42 +1,42 @@
-//! Names that are left to a thread that writes.
+//! Names that a thread which writes takes over.
 ghost use Rattle.std.specs.Prelude.{◌≡◌, ◌++◌, ◌∷◌, ◌==◌, ◌≤◌, [], IfOk, if◌then◌else◌};
 ghost use Rattle.std.specs.Prelude.{length, nat_lt};
 ghost use Rattle.std.specs.Option.{option_to_list};
 ghost use Rattle.std.specs.VecDeque.{deque_capacity};
-ghost use Rattle.traced_service.specs.declared.left.TheConstants.{MOST_LEFT};
+ghost use Rattle.traced_service.specs.declared.deferred.TheConstants.{MOST_DEFERRED};
 
 use otlp_span::Entry;
 use std::alloc::{AllocError, Global};
 use std::collections::VecDeque;
 
-/// How many names are left at most (profile).
-pub(crate) const MOST_LEFT: usize = 4096;
+/// How many names are deferred at most (profile).
+pub(crate) const MOST_DEFERRED: usize = 4096;
 
 /// Names that the worker of a service leaves to a thread that writes, the first one first. All
 /// memory is taken by `new`.
 #[derive(Drop)]
-pub(crate) struct LeftNames {
+pub(crate) struct DeferredNames {
     names: VecDeque<Entry>,
-    ghost has_room: { MOST_LEFT ≤ deque_capacity names },
+    ghost has_room: { MOST_DEFERRED ≤ deque_capacity names },
 }
 
-impl LeftNames {
-    /// None, and room for [`MOST_LEFT`].
-    pub(crate) fn new(alloc: Global) -> Result<LeftNames, AllocError>
-        ensures { IfOk result (λ left. left.names.items ≡ []) }
+impl DeferredNames {
+    /// None, and room for [`MOST_DEFERRED`].
+    pub(crate) fn new(alloc: Global) -> Result<DeferredNames, AllocError>
+        ensures { IfOk result (λ deferred. deferred.names.items ≡ []) }
     {
-        Ok(LeftNames {
-            names: VecDeque::with_capacity(alloc, MOST_LEFT)?,
+        Ok(DeferredNames {
+            names: VecDeque::with_capacity(alloc, MOST_DEFERRED)?,
         })
     }
 
-    /// One more, unless as many are left as may be. Whether it is left.
-    pub(crate) fn leave(&mut self, entry: Entry) -> bool
-        ensures room { result ≡ nat_lt (length self.old.names.items) MOST_LEFT }
+    /// Takes one more, unless it has as many as it may. Whether it took it.
+    pub(crate) fn defer(&mut self, entry: Entry) -> bool
+        ensures room { result ≡ nat_lt (length self.old.names.items) MOST_DEFERRED }
         ensures names { self.new.names.items ≡ (if result then self.old.names.items ++ entry ∷ []
             else self.old.names.items) }
     {
-        if self.names.len() >= MOST_LEFT {
+        if self.names.len() >= MOST_DEFERRED {
             return false;
         }
         self.names.push_back_reserved(entry);
@@ -50,7 +50,7 @@ impl LeftNames {
         self.names.pop_front()
     }
 
-    /// Whether none is left.
+    /// Whether it has none.
     pub(crate) fn is_empty(&self) -> bool
         ensures { result ≡ (length self.now.names.items == 0) }
     {
