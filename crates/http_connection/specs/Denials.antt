@@ -34,7 +34,7 @@ code_of denials.UnknownVersion = 505
 abbrev pub message_of : Denial → List ℕ
 message_of denials.BadRequest = codes "the request can't be read as HTTP/1.1"
 message_of denials.BadBody =
-    codes "the body can't be read as an ExportTraceServiceRequest of protobuf"
+    codes "the body can't be read as an ExportTraceServiceRequest of its type"
 message_of denials.BadCoding =
     codes "the body can't be read as a gzip file, as Content-Encoding says"
 message_of denials.Host =
@@ -50,7 +50,8 @@ message_of denials.TracesTooLarge =
     codes "more than is kept: export smaller batches, or raise --keep-spans or --keep-mb"
 message_of denials.UriTooLong = codes "the target of the request is too long"
 message_of denials.MediaType =
-    codes "set the exporter's protocol to http/protobuf, its compression to gzip or none"
+    codes "set the exporter's protocol to http/protobuf or http/json, "
+    ++ codes "its compression to gzip or none"
 message_of denials.FieldsTooLarge = codes "the fields of the request are too large"
 message_of denials.UnknownCoding = codes "a transfer coding other than chunked isn't known"
 message_of denials.OutOfMemory = codes "out of memory: try again in a second"

@@ -1,7 +1,7 @@
 -- What the head of a request says of its answer. (OTLP Specification, OTLP/HTTP Request and
 -- OTLP/HTTP Response; which requests are answered as exports are: profile)
-use Rattle.std.specs.Prelude.{ℕ, Bool, false, ◌||◌, bytes_eq, if◌then◌else◌, List, [], ◌∷◌}
-use Rattle.std.specs.Prelude.{codes, take, Option, Some, None}
+use Rattle.std.specs.Prelude.{ℕ, Bool, true, false, ◌&&◌, ◌||◌, ◌==◌, bytes_eq, if◌then◌else◌}
+use Rattle.std.specs.Prelude.{List, [], ◌∷◌, codes, take, drop, Option, Some, None}
 use Rattle.http.specs.Request.{head_of}
 use Rattle.http.specs.declared.request.Parts.{Parts}
 use Rattle.http.specs.declared.request.Request.{Request as HttpRequest}
@@ -22,9 +22,16 @@ is_export_path path =
 abbrev pub is_export : Parts → Bool
 is_export head = is_export_path (uri_path head.uri) || bytes_eq head.method (codes "POST")
 
--- a type begins as that of JSON does, in any case of letters
+-- a type ends here: at its parameters (59 is `;`), or before a space (32) or a tab (9) (RFC 9110,
+-- section 8.3.1)
+abbrev pub ends_type : List ℕ → Bool
+ends_type [] = true
+ends_type (byte ∷ rest) = (byte == 59) || ((byte == 32) || (byte == 9))
+
+-- a type is that of JSON, in any case of letters
 abbrev pub is_json_type : List ℕ → Bool
-is_json_type kind = is_same_word (take 16 kind) (codes "application/json")
+is_json_type kind =
+    is_same_word (take 16 kind) (codes "application/json") && ends_type (drop 16 kind)
 
 -- the first Content-Type is so (profile)
 abbrev pub is_json : List FieldValue → Bool

@@ -13,5 +13,5 @@ mod tally;
 pub use denial::{Denial, fill_denial, fill_options, fill_taken};
 pub use format::{Format, add_format};
 pub use hosts::{Hosts, asked_host};
-pub use request::{denial_format, is_export, is_export_path, path_of};
+pub use request::{denial_format, is_export, is_export_path, is_json, path_of};
 pub use tally::Tallies;

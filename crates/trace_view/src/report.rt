@@ -15,7 +15,10 @@ fn advice(status: u16) -> &'static str {
         405 => "post to /v1/traces, and get the other paths",
         413 => "let the exporter send smaller batches, or raise --max-body or what is kept",
         414 => "ask for a shorter target",
-        415 => "set the exporter's protocol to http/protobuf, its compression to gzip or none",
+        415 => {
+            "set the exporter's protocol to http/protobuf or http/json, its compression to gzip \
+            or none"
+        }
         431 => "send fewer or shorter fields",
         501 => "send the body as it is, or in chunks",
         503 => "raise --pending-mb, or the memory that the process may take",

@@ -1,3 +1,5 @@
+mod Contents
 mod Received
+mod Refusals
 mod Strips
 mod Zips

@@ -8,12 +8,10 @@ use Rattle.http_connection.specs.Requests.{denial_format}
 use Rattle.http_connection.specs.declared.reply.denial.Denial.{Denial}
 use Rattle.http_connection.specs.declared.reply.denial.Denial.TheVariants as denials
 use Rattle.http_connection.specs.declared.reply.format.Format.{Format}
-use Rattle.otlp_serve.specs.Answers.{refusal_with_gzip}
-use Rattle.otlp_serve.specs.declared.coding.ContentCoding.TheVariants as codings
 use Rattle.otlp_serve.specs.declared.reply.PostReply.{PostReply}
-use Rattle.view_service.specs.Contents.{IsUndecoded, coding_in, content_of}
+use Rattle.view_service.specs.Contents.{IsUndecoded, TakesMemory, content_of}
 use Rattle.view_service.specs.Receives.{AnswersContent, AnswersExport, Giving, IsAnswer, Keeping}
-use Rattle.view_service.specs.Receives.{Lacking, Receives, denial_by, post_of}
+use Rattle.view_service.specs.Receives.{Lacking, Receives, denial_by, post_of, refusal_of_post}
 use Rattle.view_service.specs.declared.content.Undecoded.TheVariants as reasons
 
 module _ {A K : Type 0} (keeps : Keeping A K) (lacks_room : Lacking A K) (gives_up : Giving K)
@@ -24,7 +22,7 @@ module _ {A K : Type 0} (keeps : Keeping A K) (lacks_room : Lacking A K) (gives_
   Answers = AnswersExport keeps lacks_room gives_up old request most room response new
 
   -- A post that isn't for a collector is answered so, and the keeper stays as it is.
-  pub is_refused : (reply : PostReply) → refusal_with_gzip (post_of request) ≡ Some reply
+  pub is_refused : (reply : PostReply) → refusal_of_post (post_of request) ≡ Some reply
       → IsDenial (denial_by reply) format response → new ≡ old → Answers
   is_refused reply why answer same = (
     Some (denial_by reply),
@@ -33,7 +31,7 @@ module _ {A K : Type 0} (keeps : Keeping A K) (lacks_room : Lacking A K) (gives_
   )
 
   -- A post whose body means nothing is answered so, and the keeper stays as it is.
-  pub is_meaningless : (denial : Denial) → refusal_with_gzip (post_of request) ≡ None
+  pub is_meaningless : (denial : Denial) → refusal_of_post (post_of request) ≡ None
       → IsUndecoded most (post_of request) (reasons.Denied denial)
       → IsDenial denial format response → new ≡ old → Answers
   is_meaningless denial why undecoded answer same = (
@@ -44,8 +42,8 @@ module _ {A K : Type 0} (keeps : Keeping A K) (lacks_room : Lacking A K) (gives_
 
   -- A post that memory refuses to decode is answered so, after the keeper gave up its oldest
   -- traces.
-  pub is_undecoded : refusal_with_gzip (post_of request) ≡ None
-      → coding_in (post_of request) ≡ Some codings.Gzip
+  pub is_undecoded : refusal_of_post (post_of request) ≡ None
+      → TakesMemory (post_of request)
       → IsDenial denials.OutOfMemory format response → gives_up old most new → Answers
   is_undecoded why coding answer gave = (
     Some denials.OutOfMemory,
@@ -54,7 +52,7 @@ module _ {A K : Type 0} (keeps : Keeping A K) (lacks_room : Lacking A K) (gives_
   )
 
   -- A post whose content is answered is answered so.
-  pub is_read : (content : List ℕ) → refusal_with_gzip (post_of request) ≡ None
+  pub is_read : (content : List ℕ) → refusal_of_post (post_of request) ≡ None
       → content_of most (post_of request) ≡ Ok content
       → AnswersContent keeps lacks_room gives_up old content room format response new → Answers
   is_read content why means answer = (

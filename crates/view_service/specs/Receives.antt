@@ -1,6 +1,7 @@
 -- What becomes of a request to receive spans. (OTLP Specification, OTLP/HTTP Request and OTLP/HTTP
 -- Response)
 use Rattle.std.specs.Prelude.{◌≡◌, ℕ, nat_lt, Bool, true, false, All, List, Option, Some, None}
+use Rattle.std.specs.Prelude.{◌&&◌, ◌||◌, codes, is_some}
 use Rattle.std.specs.Prelude.{Ok, Err}
 use Rattle.std.specs.List.Sorted.{IsPermutation, IsStrictlyIncreasing}
 use Rattle.std.specs.declared.sync.Arc.{Arc}
@@ -8,7 +9,6 @@ use Rattle.http.specs.Request.{body_of, head_of}
 use Rattle.http.specs.declared.request.Request.{Request as HttpRequest}
 use Rattle.http_server.specs.declared.response.Response.{Response}
 use Rattle.http_uri.specs.Uri.{uri_path}
-use Rattle.model_deflate.specs.Bits.{Fault}
 use Rattle.model_message.specs.Messages.{meaning}
 use Rattle.model_message.specs.Reading.{Reads}
 use Rattle.model_message.specs.Tables
@@ -18,9 +18,9 @@ use Rattle.otlp_wire.specs.declared.fault.ReadFault.TheVariants.{BadUtf8, OutOfM
 use Rattle.otlp_wire.specs.declared.fault.ReadFault.TheVariants.{Wire}
 use Rattle.otlp_read.specs.Requests.{request_view}
 use Rattle.otlp_read.specs.declared.request.Request.{Request}
-use Rattle.otlp_serve.specs.Answers.{refusal_with_gzip}
+use Rattle.otlp_serve.specs.Answers.{coding_of, field_values, is_protobuf, plain_reply}
+use Rattle.otlp_serve.specs.Answers.{refusal_where}
 use Rattle.otlp_serve.specs.Posts.{HttpPost}
-use Rattle.otlp_serve.specs.declared.coding.ContentCoding.TheVariants as codings
 use Rattle.otlp_serve.specs.declared.reply.PostReply.{PostReply}
 use Rattle.otlp_serve.specs.declared.status.ReplyStatus.{ReplyStatus}
 use Rattle.otlp_serve.specs.declared.status.ReplyStatus.TheVariants as statuses
@@ -29,7 +29,8 @@ use Rattle.http_connection.specs.Requests.{denial_format}
 use Rattle.http_connection.specs.declared.reply.denial.Denial.{Denial}
 use Rattle.http_connection.specs.declared.reply.denial.Denial.TheVariants as denials
 use Rattle.http_connection.specs.declared.reply.format.Format.{Format}
-use Rattle.view_service.specs.Contents.{coding_in, content_of, denial_by_fault}
+use Rattle.view_service.specs.Contents.{ContentFault, TakesMemory, coding_in, content_of}
+use Rattle.view_service.specs.Contents.{denial_by_fault, is_json_post}
 use Rattle.view_service.specs.declared.receive.Unread.{Unread}
 use Rattle.view_service.specs.declared.receive.Unread.TheVariants as reasons
 use Rattle.trace_store.specs.Memory.{request_size}
@@ -54,6 +55,23 @@ post_of request = record {
   fields = (head_of request).headers;
   body = body_of request;
 }
+
+-- Why a request is refused, if it is, where bodies of Protocol Buffers and of JSON are read, as
+-- they
+-- are or in gzip. (OTLP Specification, OTLP/HTTP Request)
+abbrev pub refusal_of_post : HttpPost → Option PostReply
+refusal_of_post post =
+    refusal_where ((is_json_post post || is_protobuf (field_values post (codes "content-type")))
+    && is_some (coding_in post)) post
+
+-- the reply, if it isn't for the type or the coding of the body alone
+abbrev pub unless_unsupported : ReplyStatus → PostReply → Option PostReply
+unless_unsupported statuses.UnsupportedMediaType reply = None
+unless_unsupported _ reply = Some reply
+
+abbrev pub unless_type : Option PostReply → Option PostReply
+unless_type None = None
+unless_type (Some reply) = unless_unsupported reply.status reply
 
 -- why a request is refused that a collector answers so
 abbrev pub denial_by_status : ReplyStatus → Denial
@@ -133,22 +151,23 @@ pub data ReceivesContent {A K : Type 0} (keeps : Keeping A K) (lacks_room : Lack
       → ReceivesContent keeps lacks_room gives_up old content room denial new
 
 -- What becomes of a request whose content has at most so many bytes: it isn't for a collector, its
--- body means nothing, memory to read that as a gzip file was lacking, or its content is received.
+-- body means nothing, memory to read that was lacking, or its content is received.
 -- Where memory was lacking, the oldest traces were given up for as many bytes as a content may
 -- have.
 pub data Receives {A K : Type 0} (keeps : Keeping A K) (lacks_room : Lacking A K)
     (gives_up : Giving K) (old : K) (most : ℕ) (post : HttpPost) (room : ℕ)
     (denial : Option Denial) (new : K) : Type 0 where
-  refused : (reply : PostReply) → refusal_with_gzip post ≡ Some reply
+  refused : (reply : PostReply) → refusal_of_post post ≡ Some reply
       → denial ≡ Some (denial_by reply) → new ≡ old
       → Receives keeps lacks_room gives_up old most post room denial new
-  meaningless : (fault : Fault) → refusal_with_gzip post ≡ None → content_of most post ≡ Err fault
+  meaningless : (fault : ContentFault) → refusal_of_post post ≡ None
+      → content_of most post ≡ Err fault
       → denial ≡ Some (denial_by_fault fault) → new ≡ old
       → Receives keeps lacks_room gives_up old most post room denial new
-  undecoded : refusal_with_gzip post ≡ None → coding_in post ≡ Some codings.Gzip
+  undecoded : refusal_of_post post ≡ None → TakesMemory post
       → denial ≡ Some denials.OutOfMemory → gives_up old most new
       → Receives keeps lacks_room gives_up old most post room denial new
-  read : (content : List ℕ) → refusal_with_gzip post ≡ None → content_of most post ≡ Ok content
+  read : (content : List ℕ) → refusal_of_post post ≡ None → content_of most post ≡ Ok content
       → ReceivesContent keeps lacks_room gives_up old content room denial new
       → Receives keeps lacks_room gives_up old most post room denial new
 

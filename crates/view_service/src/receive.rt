@@ -1,21 +1,23 @@
 //! Requests to receive spans.
 
-ghost use Rattle.std.specs.Prelude.{◌≡◌, ◌<◌, All, IfErr, IfOk, IsErrOf, OnErr, OnOk, length};
+ghost use Rattle.std.specs.Prelude.{◌≡◌, ◌<◌, ◌&&◌, All, IfErr, IfOk, IsErrOf, OnErr, OnOk};
+ghost use Rattle.std.specs.Prelude.{is_some, length};
 ghost use Rattle.http_server.specs.Response.{IsBlank};
 ghost use Rattle.otlp_serve.specs.Answers.{refusal_with_gzip};
 ghost use Rattle.http_connection.specs.Denials.{IsDenial};
+ghost use Rattle.view_service.specs.Contents.{coding_in, is_json_post};
 ghost use Rattle.view_service.specs.Receives.{AnswersContent, AnswersExport, HasParts, IsUnread};
-ghost use Rattle.view_service.specs.Receives.{denial_by, is_above, post_of, size_of_content};
-ghost use Rattle.view_service.specs.Receives.{unread_by};
+ghost use Rattle.view_service.specs.Receives.{denial_by, is_above, post_of, refusal_of_post};
+ghost use Rattle.view_service.specs.Receives.{size_of_content, unless_type, unread_by};
 
 use crate::content::{Undecoded, decode};
 use crate::keeper::TraceKeeper;
 use bytes::Bytes;
 use http::Request;
-use http_connection::reply::{Denial, Format, denial_format, fill_denial, fill_taken};
+use http_connection::reply::{Denial, Format, denial_format, fill_denial, fill_taken, is_json};
 use http_server::Response;
 use otlp_read::{ReadFault, read_request};
-use otlp_serve::{PostReply, ReplyStatus, refusal_with_gzip};
+use otlp_serve::{PostReply, ReplyStatus, coding_of, refusal_with_gzip};
 use std::alloc::{AllocError, Global};
 use std::sync::Arc;
 use trace_store::{InsertFault, Part, TraceDigest, ViewSpan, request_size, take_apart};
@@ -69,12 +71,46 @@ fn denial_by(reply: PostReply) -> Denial
     }
 }
 
-/// What a request is answered that isn't for a collector, if it isn't.
-fn refusal_in(request: &Request<Bytes>) -> Option<PostReply>
+/// The reply, if it isn't for the type or the coding of a body alone.
+fn unless_type(reply: Option<PostReply>) -> Option<PostReply>
+    ensures { result ≡ unless_type reply }
+{
+    match reply {
+        Some(
+            PostReply {
+                status: ReplyStatus::UnsupportedMediaType,
+                ..
+            },
+        ) => None,
+        _ => reply,
+    }
+}
+
+/// Whether a body is of JSON, in a coding that is read.
+fn is_json_in_coding(request: &Request<Bytes>) -> bool
+    ensures { result ≡ is_json_post (post_of request.now) && is_some (coding_in (post_of request.now)) }
+{
+    is_json(request) && coding_of(request.headers()).is_some()
+}
+
+/// What a request is answered that isn't for a collector that doesn't read JSON, if it isn't.
+fn binary_refusal(request: &Request<Bytes>) -> Option<PostReply>
     ensures { result ≡ refusal_with_gzip (post_of request.now) }
 {
     let (method, path) = (request.method().as_str(), request.uri().path());
     refusal_with_gzip(method, path.as_bytes(), request.headers())
+}
+
+/// What a request is answered that isn't for a collector, if it isn't.
+fn refusal_in(request: &Request<Bytes>) -> Option<PostReply>
+    ensures { result ≡ refusal_of_post (post_of request.now) }
+{
+    let reply = binary_refusal(request);
+    if is_json_in_coding(request) {
+        unless_type(reply)
+    } else {
+        reply
+    }
 }
 
 /// How many bytes of memory the reading of a content takes.

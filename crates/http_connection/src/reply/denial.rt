@@ -78,7 +78,7 @@ impl Denial {
     {
         match self {
             Denial::BadRequest => "the request can't be read as HTTP/1.1",
-            Denial::BadBody => "the body can't be read as an ExportTraceServiceRequest of protobuf",
+            Denial::BadBody => "the body can't be read as an ExportTraceServiceRequest of its type",
             Denial::BadCoding => "the body can't be read as a gzip file, as Content-Encoding says",
             Denial::Host =>
                 "this host isn't one of trace-view's: start trace-view with --host NAME",
@@ -96,7 +96,8 @@ impl Denial {
             }
             Denial::UriTooLong => "the target of the request is too long",
             Denial::MediaType => {
-                "set the exporter's protocol to http/protobuf, its compression to gzip or none"
+                "set the exporter's protocol to http/protobuf or http/json, its compression to \
+                gzip or none"
             }
             Denial::FieldsTooLarge => "the fields of the request are too large",
             Denial::UnknownCoding => "a transfer coding other than chunked isn't known",

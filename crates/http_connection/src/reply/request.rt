@@ -33,16 +33,26 @@ pub fn is_export(request: &Request<Bytes>) -> bool
     is_export_path(request.uri().path()) || request.method().as_str() == "POST"
 }
 
-/// Whether a type begins as that of JSON.
+/// Whether a type ends here.
+fn ends_type(rest: &[u8]) -> bool
+    ensures { result ≡ spec.ends_type rest.now }
+{
+    match rest {
+        [] => true,
+        [byte, ..] => *byte == b';' || *byte == b' ' || *byte == b'\t',
+    }
+}
+
+/// Whether a type is that of JSON.
 fn is_json_type(kind: &[u8]) -> bool
     ensures { result ≡ spec.is_json_type kind.now }
 {
-    let front = &kind[..16usize.min(kind.len())];
-    is_same_word(front, b"application/json")
+    let (front, rest) = kind.split_at(16usize.min(kind.len()));
+    is_same_word(front, b"application/json") && ends_type(rest)
 }
 
-/// Whether the body of a request is of JSON, by its first Content-Type.
-fn is_json(request: &Request<Bytes>) -> bool
+/// Whether the body of a request is of JSON, by its first Content-Type (RFC 9110, section 8.3).
+pub fn is_json(request: &Request<Bytes>) -> bool
     ensures { result ≡ spec.is_json (get_all (head_of request.now).headers (codes "content-type")) }
 {
     match request.headers().get_all("content-type").iter().next() {
