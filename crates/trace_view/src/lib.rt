@@ -16,6 +16,7 @@ mod clock;
 mod complaint;
 mod complaints;
 mod crowd;
+mod dated;
 mod failure;
 mod longest;
 mod origins;

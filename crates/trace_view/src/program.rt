@@ -4,6 +4,7 @@ ghost use Rattle.std.specs.Prelude.{◌≡◌, ◌≤◌, ◌*◌};
 ghost use Rattle.std.specs.Io.KnownBytes.{Keeps};
 
 use crate::args::ViewArgs;
+use crate::dated::Dated;
 use crate::failure::{Failure, ListenFault, tell};
 use crate::report::report;
 use crate::{Complaints, End, Peers, Settings, StageTimes};
@@ -90,7 +91,7 @@ where
     };
     let origins = Origins::new(mem::replace(&mut args.origins, Vec::new(alloc)));
     let mut service = match service_of(&rt, alloc, pages, &args, address) {
-        Ok(service) => Cors::new(alloc, service, origins, EXPORT_PATH),
+        Ok(service) => Dated::new(alloc, Cors::new(alloc, service, origins, EXPORT_PATH), rt),
         Err(failure) => return failure,
     };
     if let Err(failure) = print_address(alloc, address, output) {
@@ -142,7 +143,7 @@ fn serve<R, K, P, F>(
     rt: R,
     alloc: Global,
     mut peers: Peers<R, P::Page>,
-    service: &mut Cors<ViewService<K, P>>,
+    service: &mut Dated<Cors<ViewService<K, P>>, R>,
     faults: &mut F,
 ) -> Failure
 where
@@ -157,15 +158,11 @@ where
             Ok(round) => round,
             Err(end) => return failure_of(end),
         };
+        let view = &mut service.service.service;
         for _ in 0..round.accepted {
-            service.service.count_connection();
+            view.count_connection();
         }
-        report(
-            &mut complaints,
-            service.service.tallies(),
-            faults,
-            round.at_ms,
-        );
+        report(&mut complaints, view.tallies(), faults, round.at_ms);
     }
     unreachable!()
 }

@@ -6,4 +6,3 @@ mod Texts
 mod Served
 mod Queries
 pub mod Methods
-pub mod Dates

@@ -8,4 +8,3 @@ pub mod Carried
 pub mod ServerSpans
 pub mod RequestSpans
 pub mod Serves
-pub mod Dates

@@ -5,7 +5,6 @@
 
 mod attributes;
 mod carrier;
-mod date;
 mod handler;
 mod lending;
 mod name;

@@ -8,7 +8,6 @@ ghost use Rattle.traced_http.specs.Methods.{standard_methods};
 ghost use Rattle.traced_http.specs.Serves.{Serves, serving};
 
 use crate::method::KnownMethods;
-use crate::server::date::say_date;
 use crate::server::handler::Handler;
 use crate::server::lending::{Left, lend};
 use crate::server::start::Tracing;
@@ -19,6 +18,7 @@ use http_server::{Response, Service};
 use otlp_sampler::Sampler;
 use otlp_span::SpanData;
 use rand_core::Rng;
+use response_date::say_date;
 use std::alloc::{AllocError, Global};
 use trace_api::{Clock, EndPass, Ending, count_untraced};
 
