@@ -2,3 +2,4 @@ pub mod Spelled
 pub mod Rows
 pub mod Outcomes
 pub mod Wholes
+pub mod OnLiterals

@@ -20,6 +20,7 @@ mod leaf;
 mod names;
 mod number;
 mod walk;
+mod worked;
 
 pub use body::read_body;
 pub use fault::{JsonError, JsonFault};

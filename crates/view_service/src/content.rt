@@ -113,7 +113,7 @@ pub(crate) fn decode(
         return Ok(unpacked);
     }
     match read_text(alloc, content_or(request, &unpacked)) {
-        Ok(content) => Ok(Some(content)),
+        Ok(bytes) => Ok(Some(bytes)),
         Err(why) => Err(why),
     }
 }
