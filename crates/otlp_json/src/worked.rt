@@ -14,13 +14,7 @@ ghost use Rattle.otlp_json.specs.declared.names.Leaf.TheVariants as leaves;
 ghost use Rattle.otlp_json.specs.declared.names.Message.TheVariants as messages;
 
 /// Names are in lowerCamelCase, and no other spelling is known.
-#[tactic(auto, unfolding(
-    crate::specs::Names::member_named,
-    crate::specs::Names::span_member,
-    crate::specs::Names::more_of_span,
-    crate::specs::Names::any_value_member,
-    crate::specs::Names::request_member
-))]
+#[tactic(auto, unfolding(crate::specs::Names::member_named, crate::specs::Names::span_member, crate::specs::Names::more_of_span, crate::specs::Names::any_value_member, crate::specs::Names::request_member))]
 pub(crate) fn names()
     ensures parent { member_named messages.Span (codes "parentSpanId") ≡ one 4 leaves.Id }
     ensures flags { member_named messages.Span (codes "flags") ≡ one 16 leaves.Fixed32 }
@@ -30,15 +24,10 @@ pub(crate) fn names()
         ≡ each 1 messages.ResourceSpans }
     ensures capital { member_named messages.Span (codes "SpanId") ≡ None }
     ensures underscore { member_named messages.Span (codes "span_id") ≡ None }
-{
-}
+{}
 
 /// Whole numbers, which may have a point and an exponent.
-#[tactic(auto, unfolding(
-    crate::specs::Numbers::whole,
-    json::specs::Word::after_number,
-    fast_float::proofs::OnLiterals::fast_float_on_literals
-))]
+#[tactic(auto, unfolding(crate::specs::Numbers::whole, json::specs::Word::after_number, fast_float::proofs::OnLiterals::fast_float_on_literals))]
 pub(crate) fn numbers()
     ensures plain { whole (codes "12") 99 0 ≡ Ok 12 }
     ensures exponent { whole (codes "1.5e3") 9999 0 ≡ Ok 1500 }
@@ -50,24 +39,10 @@ pub(crate) fn numbers()
     ensures half { whole (codes "0.5") 9 0 ≡ Err faults.OutOfRange }
     ensures no_digits { whole (codes "") 9 0 ≡ Err faults.BadNumber }
     ensures plus { whole (codes "+1") 9 0 ≡ Err faults.BadNumber }
-{
-}
+{}
 
 /// What tokens mean in the place of fields.
-#[tactic(auto, unfolding(
-    crate::specs::Leaves::payload,
-    crate::specs::Leaves::identifier,
-    crate::specs::Leaves::base64_bytes,
-    crate::specs::Leaves::standard_bytes,
-    crate::specs::Leaves::url_safe_bytes,
-    crate::specs::Leaves::double_in,
-    crate::specs::Numbers::whole,
-    crate::specs::Numbers::double,
-    crate::specs::Numbers::quoted_double,
-    json::specs::Word::after_number,
-    hex::proofs::OnLiterals::hex_on_literals,
-    fast_float::proofs::OnLiterals::fast_float_on_literals
-))]
+#[tactic(auto, unfolding(crate::specs::Leaves::payload, crate::specs::Leaves::identifier, crate::specs::Leaves::base64_bytes, crate::specs::Leaves::standard_bytes, crate::specs::Leaves::url_safe_bytes, crate::specs::Leaves::double_in, crate::specs::Numbers::whole, crate::specs::Numbers::double, crate::specs::Numbers::quoted_double, json::specs::Word::after_number, hex::proofs::OnLiterals::hex_on_literals, fast_float::proofs::OnLiterals::fast_float_on_literals))]
 pub(crate) fn payloads()
     ensures text { payload leaves.Text (tokens.string (codes "x")) ≡ Ok (len (codes "x")) }
     ensures any_case { payload leaves.Id (tokens.string (codes "0aFF"))
@@ -88,8 +63,7 @@ pub(crate) fn payloads()
         ≡ Ok (i64 0x7ff8_0000_0000_0000) }
     ensures no_text { payload leaves.Text (tokens.number (codes "1")) ≡ Err faults.WrongType }
     ensures bad { payload leaves.Text tokens.bad ≡ Err faults.Malformed }
-{
-}
+{}
 
 /// Whole texts, with the bytes that they mean in Protocol Buffers.
 #[tactic(auto, unfolding(crate::proofs::OnLiterals::texts_on_literals))]
@@ -108,5 +82,4 @@ pub(crate) fn texts()
     ensures more { body_bytes (codes "{} 1") ≡ Err faults.Malformed }
     ensures nothing { body_bytes [] ≡ Err faults.Malformed }
     ensures no_text { body_bytes (255 ∷ []) ≡ Err faults.NotUtf8 }
-{
-}
+{}
