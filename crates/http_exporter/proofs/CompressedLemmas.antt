@@ -33,9 +33,9 @@ gzip_attempt attempts coded body exporter spent after is_on old new pair sent ou
     let kept : new ≡ keeping body sent = of_body.1 ∙ ap (keeping body) (sym sent_is) in
     in_gzip sent spent (subst (λ b. IsFile sent b) body_is is_file) on
     (λ before was.
-    sym (ap (λ k. k.file) pair_is
-    ∙ ap (λ k. k.file) (sym (kept_is new (record { body = body; file = of_body.0 }) body before
-    of_body.1 (same before on was ∙ was))))
-    ∙ sym sent_is)
+    let same_file : record { body = body; file = of_body.0 } ≡ record { body = body; file = before } =
+    kept_is new (record { body = body; file = of_body.0 }) body before of_body.1
+    (same before on was ∙ was) in
+    sym (ap (λ (k : KeptFile). k.file) same_file) ∙ sym sent_is)
     sending
     (ap₂ (λ e k. record { exporter = e; is_on = is_on; kept = k }) coded_back kept)
