@@ -1,5 +1,6 @@
 -- An attempt to send the gzip file of a body.
-use Rattle.std.proofs.Common.{◌≡◌, refl, sym, ap, ap₂, subst, ◌∙◌, ℕ, List, Bool, true, Option, Some}
+use Rattle.std.proofs.Common.{◌≡◌, refl, sym, ap, ap₂, subst, ◌∙◌, ℕ, List, Bool, true, Option}
+use Rattle.std.proofs.Common.{Some}
 use Rattle.model_desk.specs.Retries.{Outcome}
 use Rattle.otlp_http.specs.declared.request.Coding.{Coding}
 use Rattle.otlp_http.specs.declared.request.Coding.TheVariants.{Identity, Gzip}
@@ -33,7 +34,8 @@ gzip_attempt attempts coded body exporter spent after is_on old new pair sent ou
     let kept : new ≡ keeping body sent = of_body.1 ∙ ap (keeping body) (sym sent_is) in
     in_gzip sent spent (subst (λ b. IsFile sent b) body_is is_file) on
     (λ before was.
-    let same_file : record { body = body; file = of_body.0 } ≡ record { body = body; file = before } =
+    let same_file : record { body = body; file = of_body.0 }
+    ≡ record { body = body; file = before } =
     kept_is new (record { body = body; file = of_body.0 }) body before of_body.1
     (same before on was ∙ was) in
     sym (ap (λ (k : KeptFile). k.file) same_file) ∙ sym sent_is)

@@ -49,7 +49,8 @@ module _ {Dial Link : Type 0} (dials : Dial → List ℕ → ℕ → Option Link
       → GetsLink dials renews old mid.exporter.dial (Some got) → IsAsked old mid
       → IsNoted seen.exporter after
       → IsKeptPost shown seen.exporter.limits seen.exporter.reads_after_a_stop
-      (text_in seen.exporter.coding KeepAlive seen.exporter.target body) got spent outcome failure lasts
+      (text_in seen.exporter.coding KeepAlive seen.exporter.target body) got spent outcome failure
+      lasts
       → IsLast failure seen.exporter.last_failure after.last_failure
       → left ≡ (if lasts then Some spent else None)
       → IsKeptAttempt dials renews shown body old (record { exporter = after; link = left }) outcome

@@ -89,7 +89,8 @@ pub data IsKeptAttempt {Dial Link : Type 0}
   linked : (link spent : Link) (failure : Option Failure) (lasts : Bool)
       → GetsLink dials renews old new.exporter.dial (Some link)
       → IsKeptPost shown old.exporter.limits old.exporter.reads_after_a_stop
-      (text_in old.exporter.coding KeepAlive old.exporter.target body) link spent outcome failure lasts
+      (text_in old.exporter.coding KeepAlive old.exporter.target body) link spent outcome failure
+      lasts
       → new.link ≡ (if lasts then Some spent else None)
       → IsLast failure old.exporter.last_failure new.exporter.last_failure
       → IsKeptAttempt dials renews shown body old new outcome

@@ -46,7 +46,8 @@ setup_of version name s = record {
 
 -- these are the parts of the setup
 pub record IsOf (setup : Setup) (provider : ProviderWith NamedSampler) (queue : DeskConfig)
-    (target : Address) (coding : Coding) (timeout_ms : ℕ) (faults : List Fault) (is_off : Bool) : Type 0 where
+    (target : Address) (coding : Coding) (timeout_ms : ℕ) (faults : List Fault)
+    (is_off : Bool) : Type 0 where
   pub same_provider : provider ≡ setup.provider
   pub same_queue : queue ≡ setup.queue
   pub same_target : target ≡ setup.target

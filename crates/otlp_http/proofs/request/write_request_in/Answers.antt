@@ -14,7 +14,10 @@ write_pieces-requires g c =
     subst (λ t. length t ≤ 40) c.format-digits.ensures.text c.format-digits.ensures.short in
     let target = c.request_pieces-pieces.ensures.short in
     let few = c.request_pieces-pieces.ensures.few in
-    let short : length (text_in c.args.coding c.args.connection c.args.target.now c.args.body.now) < 2 ^ 64 =
+    let short : length (text_in c.args.coding c.args.connection c.args.target.now c.args.body.now)
+    < 2 ^ 64 =
     omega (arith, whole, port, digits, target, few) in
     subst (λ t. length t < 2 ^ 64)
-    (sym (c.request_pieces-pieces.ensures.whole c.args.coding c.args.connection c.line-coded.ensures c.line-asked.ensures)) short
+    (sym (c.request_pieces-pieces.ensures.whole c.args.coding c.args.connection c.line-coded.ensures
+    c.line-asked.ensures))
+    short
