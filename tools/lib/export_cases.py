@@ -16,6 +16,7 @@ TIMEOUT, SILENT_TIME, TIME = 120_000, 30_000, 16_000
 SPANS = 3
 
 OTLP = "OTEL_EXPORTER_OTLP_"
+CODED = "Content-Encoding: gzip\r\n"
 
 # --- Replies, and bodies (ExportTraceServiceResponse)
 
@@ -63,6 +64,7 @@ class Case(typing.NamedTuple):
     failure: str | None = None
     # The variable of the environment that names the server.
     variable: str = "OTEL_EXPORTER_OTLP_TRACES_ENDPOINT"
+    coding: str = "none"  # how bodies are compressed
     # The milliseconds of an attempt, and whether the first one takes them all.
     timeout: int = TIMEOUT
     is_timed: bool = False
@@ -72,7 +74,8 @@ class Case(typing.NamedTuple):
     def words(self, program, port):
         """What runs the program against the server at this port."""
         timeout = f"{self.variable.replace('ENDPOINT', 'TIMEOUT')}={self.timeout}"
-        return ["env", "-i", f"{self.variable}={self.url(port)}", timeout, program]
+        compression = f"{OTLP}COMPRESSION={self.coding}"
+        return ["env", "-i", f"{self.variable}={self.url(port)}", timeout, compression, program]
 
     def url(self, port):
         """The server's address as the variable has it: the general one is completed by the path
@@ -197,6 +200,8 @@ def outcome_runs():
     """Replies after which nothing is sent again."""
     yield Case("a host by its name", [GOOD], "delivered", host="localhost")
     yield Case("a server by the general variable", [GOOD], "delivered", variable=f"{OTLP}ENDPOINT")
+    yield Case("a body in gzip", [GOOD], "delivered", coding="gzip")
+    yield in_vain("a body in gzip, in vain", [reply("503 Any")] * 5)._replace(coding="gzip")
     for end, statuses in STATUSES:
         yield from (
             once(f"status {status:03}", reply(f"{status:03} Any"), end) for status in statuses

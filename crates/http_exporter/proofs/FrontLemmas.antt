@@ -9,23 +9,29 @@ use Rattle.std.specs.Io.KnownBytes.{Appends}
 use Rattle.otlp_http.specs.Address.{Address}
 use Rattle.http_wire.specs.Devices.{one_more}
 use Rattle.otlp_http.specs.Fields.{field_lines}
-use Rattle.otlp_http.specs.Request.{connection_line, head_for, kept_head, request_head}
+use Rattle.otlp_http.specs.Request.{coding_line, connection_line, head_in, gzip_head}
+use Rattle.otlp_http.specs.Request.{kept_head, request_head}
+use Rattle.otlp_http.specs.declared.request.Coding.{Coding}
+use Rattle.otlp_http.specs.declared.request.Coding.TheVariants.{Identity, Gzip}
 use Rattle.otlp_http.specs.declared.request.Connection.{Connection}
 use Rattle.otlp_http.specs.declared.request.Connection.TheVariants.{Close, KeepAlive}
 use Rattle.http_exporter.specs.Attempts.{Shown, IsSent, IsStopped}
 
 -- The head of a request has this length.
-pub length-head_for : (connection : Connection) (address : Address) (size : ℕ)
-    → length (head_for connection address size)
+pub length-head_in : (coding : Coding) (connection : Connection) (address : Address) (size : ℕ)
+    → length (head_in coding connection address size)
     ≡ 83
     + (length address.path
     + (length address.host
     + (length (decimal address.port)
     + (length (decimal size)
-    + (length (connection_line connection) + length (field_lines address.fields))))))
-unfolding request_head kept_head
-length-head_for Close address size = simp length-append (omega arith)
-length-head_for KeepAlive address size = simp length-append (omega arith)
+    + (length (coding_line coding)
+    + (length (connection_line connection) + length (field_lines address.fields)))))))
+unfolding request_head kept_head gzip_head
+length-head_in Identity Close address size = simp length-append (omega arith)
+length-head_in Identity KeepAlive address size = simp length-append (omega arith)
+length-head_in Gzip Close address size = simp length-append (omega arith)
+length-head_in Gzip KeepAlive address size = simp length-append (omega arith)
 
 -- A first piece that has the whole head leaves the rest of the body as the second piece.
 pub rest_of_body : (head body front : List ℕ) → front ≡ take (length front) (head ++ body)

@@ -2,7 +2,7 @@
 use Rattle.std.proofs.Common.{◌≡◌, ℕ, Bool, false, List, if◌then◌else◌, refl, sym, ap, subst, ◌∙◌}
 use Rattle.std.proofs.Common.{Option, Some, None}
 use Rattle.model_desk.specs.Retries.{Outcome, no_reply}
-use Rattle.otlp_http.specs.Request.{text_for}
+use Rattle.otlp_http.specs.Request.{text_in}
 use Rattle.otlp_http.specs.declared.request.Connection.TheVariants.{KeepAlive}
 use Rattle.http_exporter.specs.declared.failure.Failure.{Failure}
 use Rattle.http_exporter.specs.declared.failure.Failure.TheVariants.{NoConnection}
@@ -49,7 +49,8 @@ module _ {Dial Link : Type 0} (dials : Dial → List ℕ → ℕ → Option Link
       → GetsLink dials renews old mid.exporter.dial (Some got) → IsAsked old mid
       → IsNoted seen.exporter after
       → IsKeptPost shown seen.exporter.limits seen.exporter.reads_after_a_stop
-      (text_for KeepAlive seen.exporter.target body) got spent outcome failure lasts
+      (text_in seen.exporter.coding KeepAlive seen.exporter.target body) got spent outcome failure
+      lasts
       → IsLast failure seen.exporter.last_failure after.last_failure
       → left ≡ (if lasts then Some spent else None)
       → IsKeptAttempt dials renews shown body old (record { exporter = after; link = left }) outcome
@@ -62,6 +63,6 @@ module _ {Dial Link : Type 0} (dials : Dial → List ℕ → ℕ → Option Link
       linked got spent failure lasts
       (subst (λ d. GetsLink dials renews old d (Some got)) dial_is gets)
       (subst (λ e. IsKeptPost shown e.limits e.reads_after_a_stop
-      (text_for KeepAlive e.target body) got spent outcome failure lasts)
+      (text_in e.coding KeepAlive e.target body) got spent outcome failure lasts)
       exporter_is posted)
       left_is (subst (λ e. IsLast failure e.last_failure after.last_failure) exporter_is last)

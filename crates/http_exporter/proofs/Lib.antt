@@ -3,3 +3,4 @@ pub mod Crosses
 pub mod FailureLemmas
 pub mod FrontLemmas
 pub mod KeptLemmas
+pub mod CompressedLemmas

@@ -10,7 +10,9 @@ use Rattle.otlp_http.specs.Address.{Address}
 use Rattle.http_wire.specs.Devices.{HasFailed, one_more}
 use Rattle.otlp_http.specs.Outcomes.{outcome_of, outcome_of_reply}
 use Rattle.otlp_http.specs.Replies.{HttpReply, IsReply, HasNoReply}
-use Rattle.otlp_http.specs.Request.{request_text}
+use Rattle.otlp_http.specs.Request.{text_in}
+use Rattle.otlp_http.specs.declared.request.Coding.{Coding}
+use Rattle.otlp_http.specs.declared.request.Connection.TheVariants.{Close}
 use Rattle.http_exporter.specs.declared.failure.Failure.{Failure}
 use Rattle.http_exporter.specs.declared.failure.Failure.TheVariants as failures
 use Rattle.http_exporter.specs.Failures.{failure_of, failure_after_a_stop, IsLast}
@@ -33,11 +35,14 @@ shown contents remaining failed_writes failed_reads = record {
   failed_reads = failed_reads;
 }
 
--- an exporter over links: what dials, where requests go, how much of a reply is read, whether what
--- came is read where a write failed, and what the last attempt met that failed
+-- an exporter over links: what dials, where requests go, in which coding they say that their bodies
+-- are, how much of a reply is read, whether what came is read where a write failed, and what the
+-- last
+-- attempt met that failed
 pub record Exporting (Dial : Type 0) : Type 0 where
   pub dial : Dial
   pub target : Address
+  pub coding : Coding
   pub limits : HeadLimits
   pub reads_after_a_stop : Bool
   pub last_failure : Option Failure
@@ -101,7 +106,7 @@ pub data IsAttempt {Dial Link : Type 0}
       → IsAttempt dials shown body old new outcome
   linked : (fresh spent : Link) (failure : Option Failure)
       → dials old.dial old.target.host old.target.port (Some fresh) new.dial
-      → IsPosted shown old.limits old.reads_after_a_stop (request_text old.target body)
+      → IsPosted shown old.limits old.reads_after_a_stop (text_in old.coding Close old.target body)
       fresh spent outcome failure
       → IsLast failure old.last_failure new.last_failure
       → IsAttempt dials shown body old new outcome

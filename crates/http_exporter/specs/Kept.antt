@@ -9,7 +9,7 @@ use Rattle.http_wire.specs.Devices.{HasFailed}
 use Rattle.otlp_http.specs.Outcomes.{outcome_of}
 use Rattle.otlp_http.specs.Persistence.{lasts_after}
 use Rattle.otlp_http.specs.Replies.{HttpReply, HasNoReply, IsReply}
-use Rattle.otlp_http.specs.Request.{text_for}
+use Rattle.otlp_http.specs.Request.{text_in}
 use Rattle.otlp_http.specs.declared.request.Connection.TheVariants.{KeepAlive}
 use Rattle.http_exporter.specs.declared.failure.Failure.{Failure}
 use Rattle.http_exporter.specs.declared.failure.Failure.TheVariants as failures
@@ -89,7 +89,8 @@ pub data IsKeptAttempt {Dial Link : Type 0}
   linked : (link spent : Link) (failure : Option Failure) (lasts : Bool)
       → GetsLink dials renews old new.exporter.dial (Some link)
       → IsKeptPost shown old.exporter.limits old.exporter.reads_after_a_stop
-      (text_for KeepAlive old.exporter.target body) link spent outcome failure lasts
+      (text_in old.exporter.coding KeepAlive old.exporter.target body) link spent outcome failure
+      lasts
       → new.link ≡ (if lasts then Some spent else None)
       → IsLast failure old.exporter.last_failure new.exporter.last_failure
       → IsKeptAttempt dials renews shown body old new outcome

@@ -4,3 +4,4 @@ pub mod Tcp
 pub mod Buffers
 pub mod Deadlines
 pub mod Kept
+pub mod Compressed

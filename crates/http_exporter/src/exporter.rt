@@ -7,7 +7,7 @@ ghost use Rattle.std.specs.Result.{result_map_both};
 ghost use Rattle.retry_core.specs.Retries.{outcome_view};
 ghost use Rattle.model_desk.specs.Retries.{delivered};
 ghost use Rattle.otlp_http.specs.Outcomes.{reply_view};
-ghost use Rattle.otlp_http.specs.Request.{request_text, text_for};
+ghost use Rattle.otlp_http.specs.Request.{text_in};
 ghost use Rattle.otlp_http.specs.Replies.{HttpReply};
 ghost use Rattle.http_wire.specs.declared.fault.HttpFault.{HttpFault};
 ghost use Rattle.http_exporter.specs.declared.failure.Failure.{Failure};
@@ -16,12 +16,13 @@ ghost use Rattle.http_exporter.specs.Attempts.{shown, Attempts, IsAnswer, IsAtte
 ghost use Rattle.http_exporter.specs.Attempts.{NeedsNothing, outcome_after_a_stop};
 ghost use Rattle.http_exporter.specs.Kept.{IsKeptAnswer, IsKeptPost};
 
+use crate::compressed::{CodesBodies, CompressedExporter};
 use crate::dial::Dial;
 use crate::failure::{Failure, met_by};
 use crate::front::send;
 use crate::reports::ReportsFailure;
 use otlp_http::{
-    Connection, FaultRead, FaultWrite, HeadLimits, HttpFault, LastingReply, Reply, Target,
+    Coding, Connection, FaultRead, FaultWrite, HeadLimits, HttpFault, LastingReply, Reply, Target,
     read_lasting_reply, read_reply,
 };
 use otlp_ids::OutOfMemory;
@@ -40,6 +41,7 @@ pub struct LinkExporter<D, A: Allocator = Global> {
     global: Global,
     pub(crate) dial: D,
     target: Target<A>,
+    coding: Coding,
     limits: HeadLimits,
     reads_after_a_stop: bool,
     last_failure: Option<Failure>,
@@ -54,6 +56,7 @@ impl<D, A: Allocator> Model for LinkExporter<D, A> {
     ghost view = { λ e. record {
       dial = e.dial;
       target = e.target;
+      coding = e.coding;
       limits = e.limits;
       reads_after_a_stop = e.reads_after_a_stop;
       last_failure = e.last_failure;
@@ -81,6 +84,7 @@ impl<D, A: Allocator + Copy> LinkExporter<D, A> {
         ensures { result ≡ record {
           dial = dial;
           target = target;
+          coding = Coding.Identity;
           limits = record { head = 16_384; fields = 64; body = 65_536 };
           reads_after_a_stop = false;
           last_failure = None;
@@ -91,6 +95,7 @@ impl<D, A: Allocator + Copy> LinkExporter<D, A> {
             global,
             dial,
             target,
+            coding: Coding::Identity,
             limits: HeadLimits::default(),
             reads_after_a_stop: false,
             last_failure: None,
@@ -116,6 +121,27 @@ impl<D, A: Allocator + Copy> LinkExporter<D, A> {
     {
         self.reads_after_a_stop = true;
         self
+    }
+
+    /// What has its memory.
+    pub(crate) fn alloc(&self) -> A {
+        self.alloc
+    }
+
+    /// Says from now on that bodies are in this coding.
+    pub(crate) fn use_coding(&mut self, coding: Coding)
+        ensures { self.new ≡ record self.old { coding = coding } }
+    {
+        self.coding = coding;
+    }
+
+    /// The same exporter, which sends each body as a gzip file where memory allows it (see
+    /// [`CompressedExporter`]). It takes no memory before the first attempt.
+    pub fn compressed(self) -> CompressedExporter<LinkExporter<D, A>, A>
+        ensures { result ≡ record { exporter = self; is_on = true; kept = None } }
+    {
+        let alloc = self.alloc;
+        CompressedExporter::new(alloc, self, Coding::Gzip)
     }
 
     /// What the last attempt met that didn't deliver its batch whole, so that a program can say why
@@ -145,7 +171,7 @@ impl<D, A: Allocator + Copy> LinkExporter<D, A> {
     pub fn post<L: FaultRead + FaultWrite>(&self, link: &mut L, body: &[u8]) -> Outcome
         ensures { (failure : Option Failure) × IsPosted
             (shown L.contents L.remaining L.FaultWrite.failures L.FaultRead.failures)
-            self.now.limits self.now.reads_after_a_stop (request_text self.now.target body.now)
+            self.now.limits self.now.reads_after_a_stop (text_in self.now.coding Connection.Close self.now.target body.now)
             link.old link.new (outcome_view result) failure }
     {
         let (outcome, _) = self.exchange(link, body);
@@ -160,10 +186,10 @@ impl<D, A: Allocator + Copy> LinkExporter<D, A> {
     ) -> (Outcome, Option<Failure>)
         ensures { (failure : Option Failure) × IsPosted
             (shown L.contents L.remaining L.FaultWrite.failures L.FaultRead.failures)
-            self.now.limits self.now.reads_after_a_stop (request_text self.now.target body.now)
+            self.now.limits self.now.reads_after_a_stop (text_in self.now.coding Connection.Close self.now.target body.now)
             link.old link.new (outcome_view result.0) failure × AreKept failure result.1 }
     {
-        match send(link, &self.target, Connection::Close, body) {
+        match send(link, &self.target, self.coding, Connection::Close, body) {
             Ok(()) => {
                 let reply = self.read(link);
                 met_by(&reply)
@@ -183,11 +209,11 @@ impl<D, A: Allocator + Copy> LinkExporter<D, A> {
         ensures { (failure : Option Failure) × IsKeptPost
             (shown L.contents L.remaining L.FaultWrite.failures L.FaultRead.failures)
             self.now.limits self.now.reads_after_a_stop
-            (text_for Connection.KeepAlive self.now.target body.now)
+            (text_in self.now.coding Connection.KeepAlive self.now.target body.now)
             link.old link.new (outcome_view result.0) failure result.2
             × AreKept failure result.1 }
     {
-        match send(link, &self.target, Connection::KeepAlive, body) {
+        match send(link, &self.target, self.coding, Connection::KeepAlive, body) {
             Ok(()) => self.read_kept(link),
             Err(_) if self.reads_after_a_stop => {
                 let (outcome, failure) = self.read_after_a_stop(link);
@@ -318,6 +344,14 @@ impl<D: Dial, A: Allocator + Copy> Exporter for LinkExporter<D, A> {
         ensures failed { outcome_view result ≢ delivered → IsSome self.new.last_failure }
     {
         self.attempt(body)
+    }
+}
+
+impl<D: Dial, A: Allocator + Copy> CodesBodies for LinkExporter<D, A> {
+    ghost coded = { λ e coding. record e { coding = coding } };
+
+    fn set_coding(&mut self, coding: Coding) {
+        self.use_coding(coding);
     }
 }
 

@@ -1,17 +1,19 @@
 //! An exporter that posts bodies over one link as long as replies let it.
 
-ghost use Rattle.std.specs.Prelude.{◌≡◌, ◌≢◌, ◌↔◌, IsSome, IsTrue, None};
+ghost use Rattle.std.specs.Prelude.{◌≡◌, ◌≢◌, ◌↔◌, IsSome, IsTrue, None, true};
 ghost use Rattle.std.specs.Option.{option_copied};
 ghost use Rattle.retry_core.specs.Retries.{outcome_view};
 ghost use Rattle.model_desk.specs.Retries.{delivered};
 ghost use Rattle.http_exporter.specs.Attempts.{NeedsNothing, shown};
 ghost use Rattle.http_exporter.specs.Kept.{GetsLink, IsKeptAttempt, KeptAttempts};
 
+use crate::compressed::{CodesBodies, CompressedExporter};
 use crate::dial::Dial;
 use crate::exporter::LinkExporter;
 use crate::failure::Failure;
 use crate::kept_link::{KeptLink, ready};
 use crate::reports::ReportsFailure;
+use otlp_http::Coding;
 use otlp_ids::OutOfMemory;
 use retry_core::Outcome;
 use span_exporter::Exporter;
@@ -78,6 +80,15 @@ impl<D: Dial, A: Allocator + Copy> KeptExporter<D, A>
 where
     D::Link: KeptLink,
 {
+    /// The same exporter, which sends each body as a gzip file where memory allows it (see
+    /// [`CompressedExporter`]). It takes no memory before the first attempt.
+    pub fn compressed(self) -> CompressedExporter<KeptExporter<D, A>, A>
+        ensures { result ≡ record { exporter = self; is_on = true; kept = None } }
+    {
+        let alloc = self.exporter.alloc();
+        CompressedExporter::new(alloc, self, Coding::Gzip)
+    }
+
     /// The link of an attempt, if one can be had.
     fn link(&mut self) -> Option<D::Link>
         ensures gets { GetsLink D.dials D.Link.renews self.old self.new.exporter.dial result }
@@ -150,6 +161,17 @@ where
         ensures failed { outcome_view result ≢ delivered → IsSome self.new.exporter.last_failure }
     {
         self.attempt(body)
+    }
+}
+
+impl<D: Dial, A: Allocator + Copy> CodesBodies for KeptExporter<D, A>
+where
+    D::Link: KeptLink,
+{
+    ghost coded = { λ k coding. record k { exporter = record k.exporter { coding = coding } } };
+
+    fn set_coding(&mut self, coding: Coding) {
+        self.exporter.use_coding(coding);
     }
 }
 

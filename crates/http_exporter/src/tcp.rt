@@ -6,7 +6,7 @@ use crate::buffer::Buffered;
 use crate::deadline::{Countdown, Deadline, IdleStream, RuntimeClock, TimedStream};
 use crate::dial::Dial;
 use crate::exporter::LinkExporter;
-use otlp_http::{DeviceFailed, Target};
+use otlp_http::{Coding, DeviceFailed, Target};
 use std::alloc::{Allocator, Global};
 use std::fmt;
 use std::io::{ErrorKind, Read, Write};
@@ -187,6 +187,7 @@ impl<R> LinkExporter<TcpDial<R>> {
         ensures { result ≡ record {
           dial = record { runtime = rt; timeout_ms = timeout_ms; attempt_ms = timeout_ms };
           target = target;
+          coding = Coding.Identity;
           limits = record { head = 16_384; fields = 64; body = 65_536 };
           reads_after_a_stop = false;
           last_failure = None;

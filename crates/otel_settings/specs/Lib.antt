@@ -14,3 +14,4 @@ pub mod Settings
 pub mod SettingsView
 pub mod ResourcePairs
 pub mod Attributes
+pub mod Codings

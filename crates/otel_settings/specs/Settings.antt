@@ -12,6 +12,8 @@ use Rattle.otel_settings.specs.declared.variable.Variable.TheVariants as variabl
 use Rattle.otel_settings.specs.declared.fault.Instead.{Instead}
 use Rattle.otel_settings.specs.declared.fault.Instead.TheVariants as instead
 use Rattle.otlp_http.specs.Address.{Address}
+use Rattle.otlp_http.specs.declared.request.Coding.{Coding}
+use Rattle.otel_settings.specs.Codings.{coding_of}
 use Rattle.otel_settings.specs.declared.sampler.NamedSampler.{NamedSampler}
 use Rattle.otel_settings.specs.Samplers.{sampler_of, sampler_faults}
 use Rattle.otel_settings.specs.Resources.{resource_of, resource_faults}
@@ -161,6 +163,7 @@ pub record Settings : Type 0 where
   pub export_timeout_ms : ℕ
   pub limits : spans.SpanLimits
   pub target : Address
+  pub coding : Coding
   pub timeout_ms : ℕ
   pub known_methods : List ℕ
   pub faults : List Fault
@@ -186,6 +189,7 @@ settings_of pairs = record {
   export_timeout_ms = export_timeout_of pairs;
   limits = limits_of pairs;
   target = with_fields (target_of pairs) (headers_of pairs);
+  coding = coding_of pairs;
   timeout_ms = timeout_of pairs;
   known_methods = methods_of pairs;
   faults = all_faults pairs;

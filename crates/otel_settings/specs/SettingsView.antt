@@ -17,6 +17,7 @@ settings_view s = record {
   export_timeout_ms = s.export_timeout_ms;
   limits = limits_view s.limits;
   target = s.target;
+  coding = s.coding;
   timeout_ms = s.timeout_ms;
   known_methods = string_bytes s.known_methods;
   faults = faults_view s.faults.items;

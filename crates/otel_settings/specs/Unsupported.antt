@@ -11,6 +11,7 @@ use Rattle.otel_settings.specs.declared.fault.Instead.{Instead}
 use Rattle.otel_settings.specs.declared.fault.Instead.TheVariants as instead
 use Rattle.otel_settings.specs.Pairs.{Pairs, text_set}
 use Rattle.otel_settings.specs.Faults.{Fault, unread}
+use Rattle.otel_settings.specs.Codings.{coding_faults}
 
 -- whether a variable is set to this word, in letters of either case (Enum)
 abbrev pub is_only : List ℕ → Option (List ℕ) → Bool
@@ -29,14 +30,13 @@ selection_faults before pairs =
     ++ other_faults (codes "otlp") variables.TracesExporter instead.Otlp pairs
     ++ other_faults (codes "tracecontext") variables.Propagators instead.TraceContext pairs
 
--- other protocols than `http/protobuf`, and compression
+-- other protocols than `http/protobuf`, and then other compression than `gzip` and `none`
 unfoldable pub form_faults : List Fault → Pairs → List Fault
 form_faults before pairs =
-    before
+    coding_faults (before
     ++ other_faults (codes "http/protobuf") variables.OtlpProtocol instead.HttpProtobuf pairs
-    ++ other_faults (codes "http/protobuf") variables.OtlpTracesProtocol instead.HttpProtobuf pairs
-    ++ other_faults (codes "none") variables.OtlpCompression instead.NoCompression pairs
-    ++ other_faults (codes "none") variables.OtlpTracesCompression instead.NoCompression pairs
+    ++ other_faults (codes "http/protobuf") variables.OtlpTracesProtocol instead.HttpProtobuf pairs)
+    pairs
 
 -- any certificate, and any key
 unfoldable pub tls_faults : List Fault → Pairs → List Fault

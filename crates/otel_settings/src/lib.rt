@@ -18,6 +18,7 @@
 #![tactic(auto)]
 
 mod attributes;
+mod coding;
 mod endpoint;
 mod environment;
 mod fault;

@@ -8,6 +8,7 @@ ghost use Rattle.otel_settings.specs.Faults.{faults_view};
 ghost use Rattle.otel_settings.specs.Settings as settings;
 ghost use Rattle.otel_settings.specs.SettingsView.{settings_view};
 
+use crate::coding::read_coding;
 use crate::endpoint::read_target;
 use crate::fault::{Instead, SettingFault};
 use crate::headers::read_headers;
@@ -18,7 +19,7 @@ use crate::sampler::{NamedSampler, read_sampler};
 use crate::unsupported::note_unsupported;
 use crate::variable::Variable;
 use batch_desk::DeskConfig;
-use otlp_http::Target;
+use otlp_http::{Coding, Target};
 use otlp_span::SpanLimits;
 use otlp_value::Value;
 use std::alloc::{AllocError, Allocator, Global};
@@ -49,6 +50,8 @@ pub struct Settings<A: Allocator = Global> {
     /// Where spans are sent to: `http://localhost:4318/v1/traces` by default. It has the fields of
     /// `OTEL_EXPORTER_OTLP_HEADERS`, or of that of traces, which go out with each request.
     pub target: Target<A>,
+    /// In which coding bodies are sent: as they are by default, or as gzip files.
+    pub coding: Coding,
     /// How long a request to the collector may take, in milliseconds: 10,000 by default. 0 is no
     /// limit.
     pub timeout_ms: u32,
@@ -253,6 +256,7 @@ pub fn settings_of<A: Allocator + Copy>(
         export_timeout_ms: timeout.unwrap_or(30_000),
         limits,
         target: target.with_headers(headers),
+        coding: read_coding(pairs),
         timeout_ms,
         known_methods,
         faults,

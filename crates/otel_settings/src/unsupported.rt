@@ -6,6 +6,7 @@ ghost use Rattle.otel_settings.specs.Pairs.{pairs_view};
 ghost use Rattle.otel_settings.specs.Faults.{faults_view};
 ghost use Rattle.otel_settings.specs.Unsupported as unsupported;
 
+use crate::coding::note_codings;
 use crate::fault::{Instead, SettingFault, note_unread};
 use crate::pairs::text_set;
 use crate::variable::Variable;
@@ -82,10 +83,7 @@ fn note_form<A: Allocator + Copy>(
     let (only, instead) = ("http/protobuf", Instead::HttpProtobuf);
     note_other(alloc, faults, pairs, all, only, instead)?;
     note_other(alloc, faults, pairs, traces, only, instead)?;
-    let (all, traces) = (Variable::OtlpCompression, Variable::OtlpTracesCompression);
-    let (only, instead) = ("none", Instead::NoCompression);
-    note_other(alloc, faults, pairs, all, only, instead)?;
-    note_other(alloc, faults, pairs, traces, only, instead)
+    note_codings(alloc, faults, pairs)
 }
 
 /// Adds a fault for each certificate and each key.

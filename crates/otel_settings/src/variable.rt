@@ -61,7 +61,7 @@ pub enum Variable {
     OtlpProtocol,
     /// `OTEL_EXPORTER_OTLP_TRACES_PROTOCOL`: the same for spans.
     OtlpTracesProtocol,
-    /// `OTEL_EXPORTER_OTLP_COMPRESSION`: how bodies are compressed; there is `none` alone.
+    /// `OTEL_EXPORTER_OTLP_COMPRESSION`: how bodies are compressed: `gzip` or `none`.
     OtlpCompression,
     /// `OTEL_EXPORTER_OTLP_TRACES_COMPRESSION`: the same for spans.
     OtlpTracesCompression,
@@ -148,9 +148,7 @@ impl Variable {
             Variable::OtlpProtocol | Variable::OtlpTracesProtocol => {
                 "http/protobuf, the only protocol here"
             }
-            Variable::OtlpCompression | Variable::OtlpTracesCompression => {
-                "none, since nothing is compressed here"
-            }
+            Variable::OtlpCompression | Variable::OtlpTracesCompression => { "gzip or none" }
             Variable::HttpKnownMethods => "a list of methods such as GET,QUERY",
             _ => "a whole number from 0 to 4294967295",
         }

@@ -20,5 +20,5 @@ pub use http_wire::{
 };
 pub use outcome::outcome_of;
 pub use reply::{LastingReply, Reply, read_lasting_reply, read_reply};
-pub use request::{Connection, write_request, write_request_for};
+pub use request::{Coding, Connection, write_request, write_request_for, write_request_in};
 pub use target::{DEFAULT_PATH, DEFAULT_PORT, Target, TargetFault};

@@ -5,7 +5,8 @@ ghost use Rattle.std.specs.Io.KnownBytes.{Appends};
 ghost use Rattle.std.specs.List.{concat};
 ghost use Rattle.http_wire.specs.Devices.{CountsFailure};
 ghost use Rattle.otlp_http.specs.Fields.{field_lines};
-ghost use Rattle.otlp_http.specs.Request.{connection_line, request_text, text_for};
+ghost use Rattle.otlp_http.specs.Request.{coding_line, connection_line, request_text, text_for};
+ghost use Rattle.otlp_http.specs.Request.{text_in};
 
 use crate::target::Target;
 use http_wire::{FaultWrite, Stopped, write_pieces};
@@ -33,19 +34,43 @@ impl Connection {
     }
 }
 
+/// In which coding a request has its body (RFC 9110, section 8.4).
+#[derive(Clone, Copy, Debug, PartialEq, Eq)]
+pub enum Coding {
+    /// As it is.
+    Identity,
+    /// As a gzip file (RFC 9110, section 8.4.1.3).
+    Gzip,
+}
+
+impl Coding {
+    /// The line of the field `Content-Encoding` in a head, with its end: none where the body is as
+    /// it is.
+    pub fn line(self) -> &'static [u8]
+        ensures { result.now ≡ coding_line self }
+    {
+        match self {
+            Coding::Identity => b"",
+            Coding::Gzip => b"Content-Encoding: gzip\r\n",
+        }
+    }
+}
+
 /// The pieces of the request's text, with the port and the body's length in decimal digits, and the
-/// line that says what it asks of its connection.
+/// lines that say in which coding the body is and what it asks of its connection.
 fn request_pieces<'a, A: Allocator>(
     target: &'a Target<A>,
     port: &'a str,
     digits: &'a str,
+    coded: &'a [u8],
     asked: &'a [u8],
     body: &'a [u8],
-) -> [&'a [u8]; 13]
+) -> [&'a [u8]; 14]
     requires port { port.now ≡ decimal target.now.port }
     requires digits { digits.now ≡ decimal (length body.now) }
-    ensures whole { (connection : Connection) → asked.now ≡ connection_line connection
-        → concat (map (λ p. p.now) result) ≡ text_for connection target.now body.now }
+    ensures whole { (coding : Coding) (connection : Connection) → coded.now ≡ coding_line coding
+        → asked.now ≡ connection_line connection
+        → concat (map (λ p. p.now) result) ≡ text_in coding connection target.now body.now }
     ensures short { length target.now.host + length target.now.path < 2 ^ 62 }
     ensures few { length (field_lines target.now.fields) ≤ 8192 }
 {
@@ -59,6 +84,7 @@ fn request_pieces<'a, A: Allocator>(
         b"\r\nContent-Type: application/x-protobuf\r\nContent-Length: ",
         digits.as_bytes(),
         b"\r\n",
+        coded,
         asked,
         target.headers().lines(),
         b"\r\n",
@@ -113,10 +139,37 @@ pub fn write_request_for<W: FaultWrite, A: Allocator>(
         (take stopped.sent (text_for connection target.now body.now))) }
     ensures counted { CountsFailure result (W.failures writer.old) (W.failures writer.new) }
 {
+    write_request_in(writer, target, Coding::Identity, connection, body)
+}
+
+/// Writes the request that carries a body in this coding to the target, as [`write_request_for`]
+/// does, with a field that says the coding, unless the body is as it is.
+///
+/// # Errors
+///
+/// As of [`write_request`].
+pub fn write_request_in<W: FaultWrite, A: Allocator>(
+    writer: &mut W,
+    target: &Target<A>,
+    coding: Coding,
+    connection: Connection,
+    body: &[u8],
+) -> Result<(), Stopped>
+    ensures ok { OnOk result (Appends (W.contents writer.old) (W.contents writer.new)
+        (text_in coding connection target.now body.now)) }
+    ensures within { IfErr result (λ stopped.
+        stopped.sent < length (text_in coding connection target.now body.now)) }
+    ensures stopped { IfErr result (λ stopped.
+        Appends (W.contents writer.old) (W.contents writer.new)
+        (take stopped.sent (text_in coding connection target.now body.now))) }
+    ensures counted { CountsFailure result (W.failures writer.old) (W.failures writer.new) }
+{
     let mut port = Buffer::new();
     let mut digits = Buffer::new();
     let port = port.format(target.port());
     let digits = digits.format(body.len());
+    let coded = coding.line();
     let asked = connection.line();
-    write_pieces(writer, &request_pieces(target, port, digits, asked, body))
+    let pieces = request_pieces(target, port, digits, coded, asked, body);
+    write_pieces(writer, &pieces)
 }

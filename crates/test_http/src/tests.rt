@@ -3,6 +3,7 @@
 mod answers;
 mod changed_bytes;
 mod chunks;
+mod compressed;
 mod equal;
 mod faults;
 mod fixture;

@@ -21,11 +21,11 @@ use crate::work::{Traced, TracedWork};
 use batch_processor::BatchConfig;
 use batch_service::{StartFault, refusal_of, serve};
 use drop_ledger::NameLines;
-use http_exporter::{HttpExporter, KeptExporter, TcpDial};
+use http_exporter::{CompressedExporter, HttpExporter, KeptExporter, TcpDial};
 use otel_settings::{
     Environment, NamedSampler, SamplerName, SettingFault, Settings, settings_of_environment,
 };
-use otlp_http::Target;
+use otlp_http::{Coding, Target};
 use otlp_ids::OutOfMemory;
 use otlp_span::{Resource, Scope, VERSION};
 use rand::make_rng;
@@ -49,6 +49,7 @@ pub struct ServiceSetup {
     provider: Provider<NamedSampler>,
     scope: Arc<Scope>,
     target: Target,
+    coding: Coding,
     timeout_ms: u64,
     config: BatchConfig,
     faults: Vec<SettingFault>,
@@ -86,6 +87,7 @@ impl ServiceSetup {
         ensures queue { IfOk result (λ setup.
             config_view setup.config.desk ≡ config_view settings.desk) }
         ensures target { IfOk result (λ setup. setup.target ≡ settings.target) }
+        ensures coding { IfOk result (λ setup. setup.coding ≡ settings.coding) }
         ensures timeout { IfOk result (λ setup.
             setup.timeout_ms ≡ request_timeout settings.timeout_ms) }
         ensures faults { IfOk result (λ setup. setup.faults.items ≡ settings.faults.items) }
@@ -99,6 +101,7 @@ impl ServiceSetup {
             provider: Provider::new(sampler, Arc::new(alloc, resource)?, settings.limits),
             scope: Arc::new(alloc, Scope::named(alloc, name)?)?,
             target: settings.target,
+            coding: settings.coding,
             timeout_ms,
             config: BatchConfig {
                 desk: settings.desk,
@@ -119,7 +122,7 @@ impl ServiceSetup {
     ) -> Result<ServiceSetup, OutOfMemory>
         ensures { IfOk result (λ setup. (pairs : Pairs) × AreRead (R.gives rt.now) pairs
             × IsOf (setup_of VERSION.now name.now (settings_of pairs)) setup.provider
-            (config_view setup.config.desk) setup.target setup.timeout_ms
+            (config_view setup.config.desk) setup.target setup.coding setup.timeout_ms
             (faults_view setup.faults.items) setup.is_off) }
     {
         let settings = settings_of_environment(rt)?;
@@ -131,6 +134,7 @@ impl ServiceSetup {
         ensures provider { result.provider ≡ self.provider }
         ensures queue { result.config ≡ record self.config { retry = retry } }
         ensures target { result.target ≡ self.target }
+        ensures coding { result.coding ≡ self.coding }
         ensures timeout { result.timeout_ms ≡ self.timeout_ms }
         ensures faults { result.faults.items ≡ self.faults.items }
         ensures is_off { result.is_off ≡ self.is_off }
@@ -172,7 +176,7 @@ impl ServiceSetup {
         log: L,
         threads: usize,
         work: &W,
-    ) -> Result<TracedDone<W::Output, KeptExporter<TcpDial<R>>, L>, StartFault>
+    ) -> Result<TracedDone<W::Output, CompressedExporter<KeptExporter<TcpDial<R>>>, L>, StartFault>
     where
         R: Threads + Wait + RandomSource + Clock + AllocGlobal,
         R: Net<Listener = TcpListener, Stream = TcpStream>,
@@ -192,6 +196,7 @@ impl ServiceSetup {
             provider,
             scope,
             target,
+            coding,
             timeout_ms,
             config,
             faults,
@@ -204,6 +209,7 @@ impl ServiceSetup {
         let seed = draw_seed(&rt)?;
         let exporter = HttpExporter::new(alloc, rt, target, timeout_ms);
         let exporter = KeptExporter::new(exporter.reading_after_a_stop());
+        let exporter = CompressedExporter::new(alloc, exporter, coding);
         let tracer = provider.tracer(scope);
         let names = WorkerNames {
             log: log.try_clone()?,
@@ -273,7 +279,7 @@ pub fn serve_from_environment<R, L, W>(
     name: &str,
     threads: usize,
     work: &W,
-) -> Result<TracedDone<W::Output, KeptExporter<TcpDial<R>>, L>, StartFault>
+) -> Result<TracedDone<W::Output, CompressedExporter<KeptExporter<TcpDial<R>>>, L>, StartFault>
 where
     R: Threads + Wait + RandomSource + Clock + Environment + AllocGlobal,
     R: Net<Listener = TcpListener, Stream = TcpStream>,

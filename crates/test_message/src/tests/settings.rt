@@ -174,8 +174,8 @@ fn each_bad_value_is_one_fault_that_says_what_is_used(rt: HostRuntime) {
         ),
         (
             "OTEL_EXPORTER_OTLP_COMPRESSION",
-            "gzip",
-            "none, since nothing is compressed here: no compression",
+            "deflate",
+            "gzip or none: no compression",
         ),
         (
             "OTEL_INSTRUMENTATION_HTTP_KNOWN_METHODS",

@@ -1,5 +1,5 @@
 use Rattle.std.proofs.Common.{arith, length}
-use Rattle.otlp_http.specs.Request.{head_for}
+use Rattle.otlp_http.specs.Request.{head_in}
 use Rattle.http_exporter.proofs.FrontLemmas.{front_and_rest, sent_both, stopped_within}
 use Rattle.http_exporter.proofs.front.send.Goals as goal
 
@@ -10,7 +10,8 @@ returns-in-Ok-write_pieces-clause-sent g c =
     let taken = c.taken-front.ensures in
     let room = c.if-head-gt-FRONT_ROOM.false in
     let is =
-    front_and_rest (head_for c.args.connection c.args.target.now (length body)) body _ _ _ _
+    front_and_rest
+    (head_in c.args.coding c.args.connection c.args.target.now (length body)) body _ _ _ _
     c.head_length-head.ensures
     (omega (arith, room))
     front.beginning front.whole taken.taken taken.full in
@@ -24,7 +25,8 @@ returns-in-Err-write_pieces-clause-stopped g c =
     let room = c.if-head-gt-FRONT_ROOM.false in
     let stop = c.in-Err-write_pieces.ensures in
     let is =
-    front_and_rest (head_for c.args.connection c.args.target.now (length body)) body _ _ _ _
+    front_and_rest
+    (head_in c.args.coding c.args.connection c.args.target.now (length body)) body _ _ _ _
     c.head_length-head.ensures
     (omega (arith, room))
     front.beginning front.whole taken.taken taken.full in

@@ -5,7 +5,7 @@ use Rattle.otlp_http.proofs.RequestLemmas.{concat_request}
 use Rattle.otlp_http.proofs.request.request_pieces.Goals as goal
 
 pub returns-clause-whole : goal.returns-clause-whole
-returns-clause-whole g c connection is =
+returns-clause-whole g c coding connection codes_are is =
     let path : c.as_bytes.result.now ≡ c.args.target.now.path =
     c.as_bytes.ensures.value ∙ c.path.ensures.value in
     let host : c.as_bytes-2.result.now ≡ c.args.target.now.host =
@@ -16,5 +16,5 @@ returns-clause-whole g c connection is =
     c.as_bytes-4.ensures.value ∙ c.requires.digits in
     let own : c.lines.result.now ≡ field_lines c.args.target.now.fields =
     c.lines.ensures.value ∙ ap field_lines c.headers.ensures.value in
-    let whole = concat_request connection c.args.target.now c.args.body.now in
-    rw path (rw host (rw port (rw digits (rw own (rw is whole)))))
+    let whole = concat_request coding connection c.args.target.now c.args.body.now in
+    rw path (rw host (rw port (rw digits (rw own (rw codes_are (rw is whole))))))
