@@ -1,10 +1,10 @@
 //! Batches over HTTP (OTLP Specification, "OTLP/HTTP"; RFC 9110, RFC 9112): the [`HttpExporter`],
 //! which posts each body to a [`Target`] over TCP, and [`LinkExporter`], which does the same over
 //! any [`Dial`], perhaps with a [`Deadline`]; a [`KeptExporter`] keeps their connection for the
-//! next body, and a [`CompressedExporter`] has either send bodies in gzip. The [`Failure`] that each keeps a [`FailureWatch`] shows while a [`WatchedExporter`]
-//! works. [`HeaderFields`] are fields of a program's own that each request to a target has. Below
-//! them are the requests and replies, [`write_request`], [`read_reply`], and [`outcome_of`] for what
-//! a reply means.
+//! next body, and a [`CompressedExporter`] sends bodies in gzip by any of them. The [`Failure`] that
+//! each keeps a [`FailureWatch`] shows while a [`WatchedExporter`] works. [`HeaderFields`] are
+//! fields of a program's own that each request to a target has. Below them are the requests and
+//! replies, [`write_request`], [`read_reply`], and [`outcome_of`] for what a reply means.
 pub use http_exporter::{
     Buffered, CodesBodies, CompressedExporter, Countdown, DEFAULT_EXPORT_TIMEOUT_MS, Deadline,
     Dial, Failure, FailureWatch, HttpExporter, IdleStream, KeptExporter, KeptLink, LinkExporter,
