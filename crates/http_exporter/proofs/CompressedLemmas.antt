@@ -1,11 +1,11 @@
 -- An attempt to send the gzip file of a body.
-use Rattle.std.proofs.Common.{◌≡◌, refl, sym, ap, ap₂, subst, ◌∙◌, ℕ, List, Bool, true, Option}
+use Rattle.std.proofs.Common.{◌≡◌, sym, ap, ap₂, subst, ◌∙◌, ℕ, List, Bool, true, Option}
 use Rattle.std.proofs.Common.{Some}
 use Rattle.model_desk.specs.Retries.{Outcome}
 use Rattle.otlp_http.specs.declared.request.Coding.{Coding}
 use Rattle.otlp_http.specs.declared.request.Coding.TheVariants.{Identity, Gzip}
 use Rattle.gzip_write.specs.Streams.{IsFile}
-use Rattle.http_exporter.specs.Compressed.{KeptFile, keeping, Compressing, IsCompressedAttempt}
+use Rattle.http_exporter.specs.Compressed.{KeptFile, keeping, IsCompressedAttempt}
 use Rattle.http_exporter.specs.Compressed.{in_gzip}
 
 -- what is kept is this body, with its file

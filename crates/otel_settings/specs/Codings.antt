@@ -1,7 +1,6 @@
 -- In which coding bodies are sent. (OTLP Specification, OTLP Exporter Configuration, Compression)
-use Rattle.std.specs.Prelude.{ℕ, List, map, ◌++◌, Option, Some, None, bytes_eq, codes, unwrap_or}
+use Rattle.std.specs.Prelude.{ℕ, List, ◌++◌, Option, Some, None, codes, unwrap_or}
 use Rattle.std.specs.Prelude.{if◌then◌else◌}
-use Rattle.std.specs.Char.{to_ascii_lowercase}
 use Rattle.std.specs.Option.{option_or}
 use Rattle.otlp_http.specs.declared.request.Coding.{Coding}
 use Rattle.otlp_http.specs.declared.request.Coding.TheVariants.{Identity, Gzip}

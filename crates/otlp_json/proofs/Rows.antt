@@ -1,6 +1,6 @@
 -- Rows of fields, one after another, as bytes.
-use Rattle.std.proofs.Common.{◌≡◌, ℕ, zero, suc, ◌+◌, ◌-◌, ◌<◌, ◌≤◌, List, [], ◌∷◌, ◌++◌, length}
-use Rattle.std.proofs.Common.{Option, Some, None, Result, Ok, Err, ◌≢◌, refl, sym, ap, subst, ◌∙◌}
+use Rattle.std.proofs.Common.{◌≡◌, ℕ, zero, suc, ◌-◌, ◌<◌, List, [], ◌∷◌, ◌++◌, length}
+use Rattle.std.proofs.Common.{Some, None, Result, Ok, Err, ◌≢◌, refl, sym, ap, ◌∙◌}
 use Rattle.std.proofs.Common.{arith}
 use Rattle.std.proofs.Common.{append_assoc, append-nil, take, drop}
 use Rattle.std.proofs.lemmas.List.{take_at, drop_at}
@@ -11,7 +11,7 @@ use Rattle.model_message.specs.Canon.{row_bytes, field_bytes, bytes_field, messa
 use Rattle.model_message.proofs.Composed.{row_bytes-append}
 use Rattle.otlp_json.specs.Bodies.{Objects, items, members, member, nested, before, items_step}
 use Rattle.otlp_json.specs.Bodies.{members_step, object}
-use Rattle.otlp_json.specs.Fronts.{Front, give, after, ◌>>=◌, next_token, next_name, if_there}
+use Rattle.otlp_json.specs.Fronts.{Front, give, after, ◌>>=◌, next_token, if_there}
 use Rattle.otlp_json.specs.Names.{member_named}
 use Rattle.otlp_json.specs.Writing.{appended}
 use Rattle.otlp_json.specs.declared.fault.JsonFault.{JsonFault}

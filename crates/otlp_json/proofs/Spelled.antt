@@ -1,11 +1,11 @@
 -- What a tag, a payload and a length make of bytes.
-use Rattle.std.proofs.Common.{◌≡◌, ℕ, ◌+◌, ◌*◌, ◌≤◌, List, [], ◌∷◌, ◌++◌, Result, Ok, Err, refl}
+use Rattle.std.proofs.Common.{◌≡◌, ℕ, ◌+◌, ◌*◌, ◌≤◌, List, [], ◌++◌, Result, Ok, refl}
 use Rattle.std.proofs.Common.{sym, ap, subst, ◌∙◌, append_assoc, append-nil, take, drop, length}
 use Rattle.std.proofs.Common.{arith, ◌-◌, length-append, length-drop}
 use Rattle.std.proofs.Math.Seq.{take-append_seam, drop-append_seam}
 use Rattle.std.proofs.lemmas.List.{take-append-le, drop-append-le, length-take-le, take_at}
 use Rattle.std.proofs.lemmas.List.{take_all, drop_all}
-use Rattle.model_message.specs.Wire.{Payload, varint, Field}
+use Rattle.model_message.specs.Wire.{Payload, varint}
 use Rattle.model_message.specs.Messages.{wire_type}
 use Rattle.model_message.specs.Canon.{shortest, payload_bytes, field_bytes, bytes_field}
 use Rattle.otlp_json.specs.declared.fault.JsonFault.{JsonFault}

@@ -9,14 +9,13 @@ use Rattle.json.specs.Lex.{tokens}
 use Rattle.json.specs.Token.{Token, begin_object, begin_array, null}
 use Rattle.model_message.specs.Wire.{Payload, Field}
 use Rattle.model_message.specs.Canon.{message_field, row_bytes}
-use Rattle.otlp_json.specs.Fronts.{Front, give, fail, after, ◌>>=◌, next_token, next_name, skipped}
+use Rattle.otlp_json.specs.Fronts.{Front, give, fail, ◌>>=◌, next_token, next_name, skipped}
 use Rattle.otlp_json.specs.Leaves.{payload, mismatch}
 use Rattle.otlp_json.specs.Names.{member_named}
 use Rattle.otlp_json.specs.declared.fault.JsonFault.{JsonFault}
 use Rattle.otlp_json.specs.declared.fault.JsonFault.TheVariants as faults
 use Rattle.otlp_json.specs.declared.names.Kind.{Kind}
 use Rattle.otlp_json.specs.declared.names.Kind.TheVariants as kinds
-use Rattle.otlp_json.specs.declared.names.Leaf.{Leaf}
 use Rattle.otlp_json.specs.declared.names.Member.{Member}
 use Rattle.otlp_json.specs.declared.names.Message.{Message}
 use Rattle.otlp_json.specs.declared.names.Message.TheVariants as messages

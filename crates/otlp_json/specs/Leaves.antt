@@ -1,6 +1,6 @@
 -- What a token means in the place of a field that holds no message. (opentelemetry-proto, "JSON
 -- Protobuf Encoding"; Protocol Buffers, "ProtoJSON Format")
-use Rattle.std.specs.Prelude.{ℕ, ◌-◌, ◌^◌, List, Bool, ◌||◌, ◌==◌, if◌then◌else◌, Option, Result}
+use Rattle.std.specs.Prelude.{ℕ, ◌-◌, ◌^◌, List, Bool, ◌||◌, ◌==◌, if◌then◌else◌, Result}
 use Rattle.std.specs.Prelude.{Ok, Err}
 use Rattle.std.specs.List.{list_any}
 use Rattle.std.specs.Option.{ok_or}

@@ -2,7 +2,6 @@
 -- and what fields hold are those of the tables of `model_message`. (opentelemetry-proto, "JSON
 -- Protobuf Encoding"; Protocol Buffers, "ProtoJSON Format")
 use Rattle.std.specs.Prelude.{ℕ, List, codes, bytes_eq, if◌then◌else◌, Option, Some, None}
-use Rattle.otlp_json.specs.declared.names.Kind.{Kind}
 use Rattle.otlp_json.specs.declared.names.Kind.TheVariants as kinds
 use Rattle.otlp_json.specs.declared.names.Leaf.{Leaf}
 use Rattle.otlp_json.specs.declared.names.Leaf.TheVariants as leaves

@@ -1,5 +1,5 @@
 -- The numbers that texts are. (Protocol Buffers, "ProtoJSON Format"; RFC 8259, section 6)
-use Rattle.std.specs.Prelude.{ℕ, ◌-◌, ◌^◌, List, [], ◌∷◌, ◌++◌, drop, Bool, true, false, ◌&&◌}
+use Rattle.std.specs.Prelude.{ℕ, ◌-◌, ◌^◌, List, [], ◌∷◌, ◌++◌, drop, Bool, true, false}
 use Rattle.std.specs.Prelude.{nat_le, ◌==◌, if◌then◌else◌, Option, Some, None, Result, Ok, Err}
 use Rattle.std.specs.Prelude.{codes, bytes_eq, to_bits}
 use Rattle.std.specs.Float.{Float, binary64, float_is_finite}

@@ -1,7 +1,6 @@
 -- Why there is no content.
-use Rattle.std.proofs.Common.{◌≡◌, ℕ, List, true, Ok, Err, Result, ap, ◌∙◌, inl, inr}
+use Rattle.std.proofs.Common.{◌≡◌, ℕ, List, true, Ok, ap, ◌∙◌, inl, inr}
 use Rattle.otlp_serve.specs.Posts.{HttpPost}
-use Rattle.otlp_json.specs.Bodies.{body_bytes}
 use Rattle.view_service.specs.Contents.{IsNoText, IsPacked, IsUndecoded, coding, coding_in, decoded}
 use Rattle.view_service.specs.Contents.{is_json_post, json, of_text, typed}
 use Rattle.view_service.specs.declared.content.Undecoded.{Undecoded}

@@ -18,7 +18,7 @@ use Rattle.otlp_wire.specs.declared.fault.ReadFault.TheVariants.{BadUtf8, OutOfM
 use Rattle.otlp_wire.specs.declared.fault.ReadFault.TheVariants.{Wire}
 use Rattle.otlp_read.specs.Requests.{request_view}
 use Rattle.otlp_read.specs.declared.request.Request.{Request}
-use Rattle.otlp_serve.specs.Answers.{coding_of, field_values, is_protobuf, plain_reply}
+use Rattle.otlp_serve.specs.Answers.{field_values, is_protobuf}
 use Rattle.otlp_serve.specs.Answers.{refusal_where}
 use Rattle.otlp_serve.specs.Posts.{HttpPost}
 use Rattle.otlp_serve.specs.declared.reply.PostReply.{PostReply}
@@ -56,8 +56,7 @@ post_of request = record {
   body = body_of request;
 }
 
--- Why a request is refused, if it is, where bodies of Protocol Buffers and of JSON are read, as
--- they
+-- Why a request is refused, if it is, where bodies of Protocol Buffers and of JSON are read, as they
 -- are or in gzip. (OTLP Specification, OTLP/HTTP Request)
 abbrev pub refusal_of_post : HttpPost → Option PostReply
 refusal_of_post post =

@@ -1,14 +1,13 @@
-use Rattle.std.proofs.Common.{◌≡◌, ◌≢◌, ℕ, ◌+◌, ◌-◌, ◌<◌, ◌≤◌, List, [], ◌∷◌, ◌++◌, length, Some}
+use Rattle.std.proofs.Common.{◌≡◌, ℕ, ◌-◌, List, [], ◌++◌, length, Some}
 use Rattle.std.proofs.Common.{None}
-use Rattle.std.proofs.Common.{Result, Ok, Err, sym, ap, ◌∙◌, arith, rules, take, drop, suc, subst}
+use Rattle.std.proofs.Common.{Result, Ok, sym, ap, ◌∙◌, arith, take, drop, subst}
 use Rattle.std.specs.Option.{option_map}
 use Rattle.json.specs.Token.{Token}
 use Rattle.json.specs.Json.{read_key, after_end_array}
 use Rattle.json.specs.Reads.{token_of}
-use Rattle.json.proofs.Grammar.{read_key-shorter, after_end_array-shorter}
-use Rattle.model_message.specs.Canon.{field_bytes, bytes_field, message_field}
-use Rattle.otlp_json.specs.Bodies.{object, members, member, value, nested, items, each, by_kind}
-use Rattle.otlp_json.specs.Bodies.{leaf_field, is_null}
+use Rattle.json.proofs.Grammar.{read_key-shorter}
+use Rattle.model_message.specs.Canon.{field_bytes, bytes_field}
+use Rattle.otlp_json.specs.Bodies.{object, members, member, value, nested, items, each}
 use Rattle.otlp_json.specs.Fronts.{next_token, if_skipped, after}
 use Rattle.otlp_json.specs.Leaves.{payload}
 use Rattle.otlp_json.specs.Names.{member_named}

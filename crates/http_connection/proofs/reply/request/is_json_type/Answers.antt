@@ -1,4 +1,4 @@
-use Rattle.std.proofs.Common.{◌≡◌, ◌∙◌, ◌&&◌, ap, sym, codes, take, drop}
+use Rattle.std.proofs.Common.{◌∙◌, ◌&&◌, ap, sym, codes, take, drop}
 use Rattle.std.proofs.lemmas.List.{take_min}
 use Rattle.http_connection.specs.Hosts.{is_same_word}
 use Rattle.http_connection.specs.Requests.{ends_type}
