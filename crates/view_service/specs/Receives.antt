@@ -56,8 +56,8 @@ post_of request = record {
   body = body_of request;
 }
 
--- Why a request is refused, if it is, where bodies of Protocol Buffers and of JSON are read, as they
--- are or in gzip. (OTLP Specification, OTLP/HTTP Request)
+-- Why a request is refused, if it is, where bodies of Protocol Buffers and of JSON are read, as
+-- they are or in gzip. (OTLP Specification, OTLP/HTTP Request)
 abbrev pub refusal_of_post : HttpPost → Option PostReply
 refusal_of_post post =
     refusal_where ((is_json_post post || is_protobuf (field_values post (codes "content-type")))
