@@ -22,3 +22,14 @@ returns-in_default-clause-refused c =
     subst IsNoAddress same c.in_default.ensures in
     cause-of-text c.args.words.now c.no_address.result c.no_address.ensures
     (inl (c.in_ok-found.ensures.taken, none))
+
+pub returns-then-not-are_origins-clause-refused : goal.returns-then-not-are_origins-clause-refused
+returns-then-not-are_origins-clause-refused c =
+    let same : texts_of c.as_slice-2.result.now
+    ≡ texts_given command (codes "allow-origin") c.args.words.now =
+    first_of (search rules, grind (arith, common_steps)) in
+    let bad : are_origins (texts_of c.as_slice-2.result.now) ≡ false = search rules in
+    let none : are_origins (texts_given command (codes "allow-origin") c.args.words.now) ≡ false =
+    subst (λ texts. are_origins texts ≡ false) same bad in
+    cause-of-text c.args.words.now c.no_origin.result c.no_origin.ensures
+    (inr (c.in_ok-found.ensures.taken, none))
