@@ -192,7 +192,8 @@ SPAN = (
     '{"traceId":"5b8efff798038103d269b633813fc60c","spanId":"eee19b7ec3c1b174","traceState":"",'
     '"parentSpanId":"","name":"I\\u00e9\\ud83d\\ude00","kind":2,"startTimeUnixNano":"1544712660",'
     '"endTimeUnixNano":1.5e9,"attributes":[%s],"droppedAttributesCount":1,'
-    '"events":[{"timeUnixNano":"7","name":"e","attributes":[]}],"links":[{"traceId":"","spanId":"0A","flags":257}],'
+    '"events":[{"timeUnixNano":"7","name":"e","attributes":[]}],'
+    '"links":[{"traceId":"","spanId":"0A","flags":257}],'
     '"status":{"code":2,"message":"m"},"flags":"256","later":[{"a":[1,true,null]}]}'
 )
 VALUES = (
@@ -212,7 +213,8 @@ PARTS = [
     b"null", b"{}", b"[]", b"[null]", b"1", b"-0", b"1e3", b"1.0", b"0.5", b"-1", b"4294967296",
     b"9223372036854775808", b"18446744073709551616", b'"18446744073709551615"', b'"NaN"', b'"1e2"',
     b'""', b'"abc"', b'"AAA"', b'"AA=="', b'"A"', b"true", b'"\\ud800"', b'"\\udc00\\ud800"',
-    b"\xff", b"\xed\xa0\x80", b",", b":", b"}", b"]", b'"', b"\\", b" ", b"\t", b"1e400", b'"-"', b'"+1"',
+    b"\xff", b"\xed\xa0\x80", b",", b":", b"}", b"]", b'"', b"\\", b" ", b"\t", b"1e400",
+    b'"-"', b'"+1"',
 ]
 VALUE = re.compile(rb'"[^"]*"|-?[0-9.e]+|true|null|\{\}|\[\]')
 
