@@ -7,6 +7,7 @@ mod calls;
 mod error;
 
 mod records;
+mod removing;
 mod state;
 mod synced;
 
