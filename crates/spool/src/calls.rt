@@ -51,4 +51,39 @@ impl<D: Device> Spool<D> {
         self.write(&bytes, next, self.done, size)?;
         Ok(first)
     }
+
+    /// Notes that all bodies with a lower number were delivered, and syncs once. From then on no crash
+    /// brings them back: they are not given again. A crash before may, so a body can be delivered
+    /// twice. Files whose bodies are all delivered are removed.
+    ///
+    /// # Errors
+    ///
+    /// `Memory`, `Failed`; `Full` only if the files have 2^64 bytes, or there have been 2^63 bodies.
+    /// After an error open the spool again.
+    pub fn note_delivered(&mut self, alloc: Global, number: u64) -> Result<(), SpoolError>
+        requires { D.is_known → IsSettled D.files D.moment D.left_at self.old }
+        ensures settled { OnOk result (D.is_known → IsSettled D.files D.moment D.left_at self.new) }
+        ensures waiting { OnOk result (D.is_known → waiting (D.files (device_of self.new))
+            ≡ numbered_from number (waiting (D.files (device_of self.old)))) }
+        ensures bound { OnOk result (D.is_known
+            → reserved (D.files (device_of self.new)) ≤ reserved (D.files (device_of self.old))) }
+        ensures limit { limit_of self.new ≡ limit_of self.old }
+        ensures crash { D.is_known
+            → LeavesOnly D.moment D.left_at (device_of self.old) (device_of self.new)
+            (LeftByNote (D.files (device_of self.old)) number) }
+    {
+        let noted = number.min(self.next);
+        if noted <= self.done {
+            return Ok(());
+        }
+        let bytes = note_record(alloc, &self.table, noted)?;
+        let Some(size) = self.size.checked_add(bytes.len() as u64) else {
+            return Err(SpoolError::Full);
+        };
+        self.make_open(bytes.len() as u64)?;
+        let next = self.next;
+        self.write(&bytes, next, noted, size)?;
+        self.remove_done()?;
+        Ok(())
+    }
 }

@@ -144,6 +144,9 @@ impl<D: Device> Spool<D> {
         requires is_open { IsSome self.old.growing }
         requires grows { D.is_known → Grows (D.files self.old.device) bytes.now next done size }
         ensures settled { OnOk result (D.is_known → IsSettled D.files D.moment D.left_at self.new) }
+        ensures is_open { OnOk result (IsSome self.new.growing) }
+        ensures next { OnOk result (self.new.next ≡ next) }
+        ensures done { OnOk result (self.new.done ≡ done) }
         ensures written { OnOk result (D.is_known
             → D.files self.new.device ≡ grow_last bytes.now (D.files self.old.device)) }
         ensures limit { self.new.limit ≡ self.old.limit }
