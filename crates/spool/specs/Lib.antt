@@ -2,3 +2,4 @@ pub mod Records
 pub mod Spools
 pub mod Errors
 pub mod Settled
+pub mod Surveys

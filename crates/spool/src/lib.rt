@@ -5,6 +5,8 @@
 
 mod calls;
 mod error;
+mod giving;
+mod opening;
 
 mod records;
 mod removing;
@@ -12,4 +14,6 @@ mod state;
 mod synced;
 
 pub use error::SpoolError;
+pub use giving::WaitingBodies;
+pub use opening::Opened;
 pub use state::Spool;

@@ -82,7 +82,9 @@ fn noted(content: &[u8]) -> u64
     u64::from_le_bytes(*number)
 }
 
-/// What the records of a file are.
+/// What the records of a file are: how many bodies they keep, the greatest number that they note, and
+/// how many bytes are not read.
+#[derive(Clone, Copy, Debug)]
 pub(crate) struct FileRecords {
     pub(crate) bodies: u64,
     pub(crate) done: u64,
