@@ -7,11 +7,11 @@ mod calls;
 mod error;
 mod giving;
 mod opening;
-
 mod records;
 mod removing;
 mod state;
 mod synced;
+pub mod worked;
 
 pub use error::SpoolError;
 pub use giving::WaitingBodies;

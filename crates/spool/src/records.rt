@@ -7,7 +7,7 @@ ghost use Rattle.std.specs.Int.{w32, from_le_bytes};
 ghost use Rattle.spool.specs.Records.{record_bytes, IsContent, spelled, length_at, content_at, after_at};
 ghost use Rattle.spool.specs.Records.{is_record_at, contents, rest, body_content, note_content, body_of};
 ghost use Rattle.spool.specs.Records.{note_of, bodies, notes};
-ghost use Rattle.spool.specs.Spools.{greatest};
+ghost use Rattle.spool.specs.Spools.{greatest, IsOneTooLong};
 
 use crate::SpoolError;
 use gzip_read::CrcTable;
@@ -202,6 +202,7 @@ pub(crate) fn bodies_record(
     ensures written { IfOk result (λ v. v.items
         ≡ spelled (map body_content (map (λ body. body.items) bodies.now))) }
     ensures fits { OnOk result (AllByRecursion IsContent (map body_content (map (λ body. body.items) bodies.now))) }
+    ensures full { IsErrOf result SpoolError.Full → IsOneTooLong (map (λ body. body.items) bodies.now) }
 {
     let mut out = Vec::new(alloc);
     for body in bodies {
