@@ -6,8 +6,7 @@ ghost use Rattle.gzip_read.specs.Tables.{IsCrcTable, AreCrcEntries};
 
 use std::alloc::{AllocError, Allocator};
 
-/// A table that the check of bytes, CRC-32, is looked up in: the steps of each byte, and those of
-/// each with one to fifteen bytes of 0 after it. It takes 16 KB.
+/// The steps of each byte, and those of each with one to fifteen bytes of 0 after it.
 #[derive(Drop)]
 pub struct CrcTable<A: Allocator> {
     entries: Vec<u32, A>,
