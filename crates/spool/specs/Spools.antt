@@ -1,5 +1,6 @@
 -- What the files of a spool mean. (profile)
-use Rattle.std.specs.Prelude.{◌≡◌, ◌⊎◌, ℕ, ◌+◌, ◌-◌, ◌*◌, ◌<◌, ◌≤◌, ◌==◌, max, Bool, List, [], ◌∷◌, ◌++◌}
+use Rattle.std.specs.Prelude.{◌≡◌, ◌⊎◌, ℕ, ◌+◌, ◌-◌, ◌*◌, ◌<◌, ◌≤◌, ◌==◌, max, Bool, List, [], ◌∷◌}
+use Rattle.std.specs.Prelude.{◌++◌}
 use Rattle.std.specs.Prelude.{length, map, take, drop, flat_map, filter, sum_by, nat_le, true}
 use Rattle.std.specs.Prelude.{if◌then◌else◌, Any, ◌^◌}
 use Rattle.std.specs.List.{enumerate_from}
@@ -92,8 +93,10 @@ HasNoRoom disk bodies limit =
 
 -- ---- crashes
 
--- What a crash during a put leaves: what waited, and some of the bodies, the first ones, none, some or
--- all, each of them whole, with the numbers that they are given. The files stay within the limit, if
+-- What a crash during a put leaves: what waited, and some of the bodies, the first ones, none, some
+-- or
+-- all, each of them whole, with the numbers that they are given. The files stay within the limit,
+-- if
 -- they were.
 pub record LeftByPut (disk : Disk) (bodies : List (List ℕ)) (limit : ℕ) (left : Disk) : Type 0 where
   pub count : ℕ

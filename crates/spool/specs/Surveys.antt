@@ -1,5 +1,6 @@
 -- What is found in the files of a spool as it is opened. (profile)
-use Rattle.std.specs.Prelude.{◌≡◌, ◌≢◌, ◌⊎◌, ℕ, List, [], ◌∷◌, ◌++◌, map, Bool, true, false, Option, Some, None}
+use Rattle.std.specs.Prelude.{◌≡◌, ◌≢◌, ◌⊎◌, ℕ, List, [], ◌∷◌, ◌++◌, map, Bool, true, false, Option}
+use Rattle.std.specs.Prelude.{Some, None}
 use Rattle.spool_device.specs.Disks.{SpoolFile, Disk, disk_size}
 use Rattle.spool.specs.Spools.{is_whole, end_of, greatest, done_to, damaged_bytes}
 use Rattle.spool.specs.Settled.{segment_of}

@@ -58,12 +58,7 @@ impl Survey {
     }
 
     /// Adds the next file.
-    fn add(
-        &mut self,
-        table: &CrcTable<Global>,
-        number: u64,
-        bytes: &[u8],
-    ) -> Result<(), SpoolError>
+    fn add(&mut self, table: &CrcTable<Global>, number: u64, bytes: &[u8]) -> Result<(), SpoolError>
         requires { number < 2 ^ 63 }
         ensures { OnOk result ((disk : Disk) (file : SpoolFile) → IsSurvey disk self.old
             → file.number ≡ number → file.bytes ≡ bytes.now → IsSurvey (disk ++ file ∷ []) self.new) }

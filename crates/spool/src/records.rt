@@ -31,7 +31,11 @@ fn head(bytes: &[u8]) -> Option<(u32, u32, &[u8])>
     let Some((check, after)) = after.split_first_chunk::<4>() else {
         return None;
     };
-    Some((u32::from_le_bytes(*length), u32::from_le_bytes(*check), after))
+    Some((
+        u32::from_le_bytes(*length),
+        u32::from_le_bytes(*check),
+        after,
+    ))
 }
 
 /// The content of the record that bytes begin with, and the bytes after it.

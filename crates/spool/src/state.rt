@@ -92,7 +92,7 @@ pub(crate) fn room_for(
     ensures { MatchOption result
         ((limit < size + bytes + 17 * (next + count - done)) ⊎ (2 ^ 63 ≤ next + count))
         (λ x. (x.0 ≡ size + bytes) × (x.1 ≡ next + count)
-            × (size + bytes + 17 * (next + count - done) ≤ limit) × (next + count < 2 ^ 63)) }
+        × (size + bytes + 17 * (next + count - done) ≤ limit) × (next + count < 2 ^ 63)) }
 {
     let after = u128::from(next) + u128::from(count);
     let larger = u128::from(size) + u128::from(bytes);

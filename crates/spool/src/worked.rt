@@ -14,8 +14,7 @@ pub fn records()
     ensures left { rest (first ++ take 9 second) ≡ take 9 second }
     ensures damaged { contents (flipped ++ first) ≡ [] }
     ensures zeros { contents (0 ∷ 0 ∷ 0 ∷ 0 ∷ 0 ∷ 0 ∷ 0 ∷ 0 ∷ 0 ∷ []) ≡ [] }
-{
-}
+{}
 
 /// What files mean: bodies with their numbers, without those that a later file notes as delivered.
 pub fn spools()
@@ -24,5 +23,4 @@ pub fn spools()
     ensures next { next_number (old_file ∷ torn_file ∷ []) ≡ 11 }
     ensures damaged { damaged_bytes (old_file ∷ torn_file ∷ damaged_file ∷ []) ≡ 31 }
     ensures later { next_number (old_file ∷ damaged_file ∷ []) ≡ 21 }
-{
-}
+{}

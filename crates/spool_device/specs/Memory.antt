@@ -24,4 +24,5 @@ past_view past = map (λ files. files_view files.items) past
 -- what a crash left, or leaves
 abbrev pub was_left : MemoryDevice → ℕ → Disk → Type 0
 was_left device moment left =
-    slice_get (moments (past_view device.past.items) (files_view device.files.items)) moment ≡ Some left
+    slice_get (moments (past_view device.past.items) (files_view device.files.items)) moment
+    ≡ Some left

@@ -35,10 +35,7 @@ fn work<D: Device>(alloc: Global, spool: &mut Spool<D>) -> Result<u64, SpoolErro
 }
 
 /// The files that are there where the device fails after so many calls, and what the work answered.
-fn left_after(
-    alloc: Global,
-    calls: u64,
-) -> (Result<u64, SpoolError>, Vec<MemoryFile>) {
+fn left_after(alloc: Global, calls: u64) -> (Result<u64, SpoolError>, Vec<MemoryFile>) {
     let device = MemoryDevice::new(alloc, Vec::new(alloc), calls);
     match Spool::open(alloc, device, 1000, 1000) {
         Ok(opened) => {

@@ -14,9 +14,7 @@ pub(crate) const FIRST: [u8; 11] = [3, 0, 0, 0, 208, 173, 25, 191, 1, 7, 8];
 pub(crate) const SECOND: [u8; 10] = [2, 0, 0, 0, 26, 155, 30, 33, 1, 9];
 
 /// The record of the note that all bodies below 1 were delivered.
-pub(crate) const NOTE: [u8; 17] = [
-    9, 0, 0, 0, 182, 60, 85, 4, 2, 1, 0, 0, 0, 0, 0, 0, 0,
-];
+pub(crate) const NOTE: [u8; 17] = [9, 0, 0, 0, 182, 60, 85, 4, 2, 1, 0, 0, 0, 0, 0, 0, 0];
 
 /// A device that does as many calls as there may be.
 pub(crate) fn lasting(alloc: Global, files: Vec<MemoryFile>) -> MemoryDevice {
@@ -60,10 +58,7 @@ fn push_listed(out: &mut Vec<u8>, found: &WaitingBodies) -> Result<(), AllocErro
 }
 
 /// Lists all bodies that wait.
-pub(crate) fn listed<D: Device>(
-    alloc: Global,
-    spool: &mut Spool<D>,
-) -> Result<Vec<u8>, SpoolError>
+pub(crate) fn listed<D: Device>(alloc: Global, spool: &mut Spool<D>) -> Result<Vec<u8>, SpoolError>
     requires { D.is_known → IsSettled D.files D.moment D.left_at spool.old }
     ensures { D.is_known → IsSettled D.files D.moment D.left_at spool.new }
 {
@@ -76,10 +71,7 @@ pub(crate) fn listed<D: Device>(
 }
 
 /// What waits in files, and how many bytes of them are not read.
-pub(crate) fn meaning(
-    alloc: Global,
-    files: Vec<MemoryFile>,
-) -> Result<(Vec<u8>, u64), SpoolError> {
+pub(crate) fn meaning(alloc: Global, files: Vec<MemoryFile>) -> Result<(Vec<u8>, u64), SpoolError> {
     let mut opened = opened(alloc, lasting(alloc, files), 1000, 1000)?;
     let all = listed(alloc, &mut opened.spool)?;
     Ok((all, opened.damaged_bytes))
@@ -108,11 +100,36 @@ fn what_files_mean(rt: HostRuntime) {
     let first = FIRST.as_slice();
     let second = SECOND.as_slice();
     for (parts, after, want, damaged) in [
-        ([first, second].as_slice(), [second].as_slice(), [5, 2, 7, 8, 6, 1, 9, 9, 1, 9].as_slice(), 0),
-        ([first, SPOILED.as_slice(), second].as_slice(), [second].as_slice(), [5, 2, 7, 8, 9, 1, 9].as_slice(), 21),
-        ([FLIPPED.as_slice(), first].as_slice(), [first].as_slice(), [9, 2, 7, 8].as_slice(), 22),
-        ([first, &second[..9]].as_slice(), [].as_slice(), [5, 2, 7, 8].as_slice(), 9),
-        ([[0; 8].as_slice()].as_slice(), [second].as_slice(), [9, 1, 9].as_slice(), 8),
+        (
+            [first, second].as_slice(),
+            [second].as_slice(),
+            [5, 2, 7, 8, 6, 1, 9, 9, 1, 9].as_slice(),
+            0,
+        ),
+        (
+            [first, SPOILED.as_slice(), second].as_slice(),
+            [second].as_slice(),
+            [5, 2, 7, 8, 9, 1, 9].as_slice(),
+            21,
+        ),
+        (
+            [FLIPPED.as_slice(), first].as_slice(),
+            [first].as_slice(),
+            [9, 2, 7, 8].as_slice(),
+            22,
+        ),
+        (
+            [first, &second[..9]].as_slice(),
+            [].as_slice(),
+            [5, 2, 7, 8].as_slice(),
+            9,
+        ),
+        (
+            [[0; 8].as_slice()].as_slice(),
+            [second].as_slice(),
+            [9, 1, 9].as_slice(),
+            8,
+        ),
     ] {
         let (all, lost) = meaning_of(rt.alloc(), parts, after).expect(&rt, "a spool");
         assert_equal(&rt, all.as_slice(), want);
