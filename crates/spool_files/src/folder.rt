@@ -57,15 +57,15 @@ fn path_of(alloc: Global, folder: &str, number: u64) -> Result<String, AllocErro
 }
 
 impl SpoolFolder {
-    /// Opens a folder, which is made if it isn't there, and syncs what is in it. Files with other names
-    /// are left alone.
+    /// Opens a folder, which is made if it isn't there, and syncs it and what is in it. Files with other
+    /// names are left alone.
     ///
     /// # Errors
     ///
     /// `Failed`: the folder can't be made, read or written, or another process has it open. `Memory`.
     pub fn open(rt: &HostRuntime, folder: &str) -> Result<SpoolFolder, DeviceError> {
         let alloc = rt.alloc();
-        fs::create_dir_all(rt, folder).map_err(failed)?;
+        make_folder(rt, folder)?;
         let lock = lock_of(rt, folder)?;
         let numbers = numbers_in(rt, folder)?;
         for number in numbers.iter() {
@@ -102,6 +102,18 @@ impl SpoolFolder {
         let folder = fs::File::open(&self.rt, self.folder.as_str()).map_err(failed)?;
         folder.sync_all().map_err(failed)
     }
+}
+
+/// Makes a folder if it isn't there, and syncs its name. The folder above it has to be there.
+fn make_folder(rt: &HostRuntime, folder: &str) -> Result<(), DeviceError> {
+    match fs::create_dir(rt, folder) {
+        Ok(()) => {}
+        Err(error) if error.kind() == io::ErrorKind::AlreadyExists => {}
+        Err(error) => return Err(failed(error)),
+    }
+    let above = format!(in rt.alloc(); "{folder}/..")?;
+    let above = fs::File::open(rt, above.as_str()).map_err(failed)?;
+    above.sync_all().map_err(failed)
 }
 
 /// A lock that only one process has.
