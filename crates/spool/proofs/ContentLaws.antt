@@ -1,15 +1,14 @@
 -- What the records of bodies and of notes are read as.
-use Rattle.std.proofs.Common.{◌≡◌, ◌≢◌, inl, inr, refl, sym, ap, ap₂, ◌∙◌, subst, ℕ, zero, suc, ◌+◌, ◌-◌, ◌*◌, ◌^◌}
-use Rattle.std.proofs.Common.{◌<◌, ◌≤◌, max, List, [], ◌∷◌, ◌++◌, length, take, drop, map, arith, cond, true, false, Bool}
-use Rattle.std.proofs.Common.{append_assoc, length-append}
-use Rattle.std.specs.Prelude.{flat_map, filter_map, filter, nat_le}
-use Rattle.std.proofs.lemmas.Bool.{cases_eq, cases_lt, cases_Bool, le-leb, lt-leb, cond-true, cond-false}
-use Rattle.std.proofs.lemmas.List.{drop-append-le, append-nil}
-use Rattle.std.proofs.lemmas.List.Elements.{filter_map-append}
+use Rattle.std.proofs.Common.{◌≡◌, inl, inr, refl, sym, ap, ◌∙◌, ℕ, zero, suc, ◌+◌}
+use Rattle.std.proofs.Common.{◌-◌, ◌^◌}
+use Rattle.std.proofs.Common.{◌<◌, ◌≤◌, List, [], ◌∷◌, ◌++◌, length, drop, map, arith}
+use Rattle.std.proofs.Common.{true, false}
+use Rattle.std.specs.Prelude.{nat_le}
+use Rattle.std.proofs.lemmas.Bool.{cases_lt, le-leb, lt-leb, cond-true}
+use Rattle.std.proofs.lemmas.Bool.{cond-false}
 use Rattle.std.proofs.lemmas.Nat.{from_le_bytes-to_le_bytes_8}
-use Rattle.std.specs.Int.{w64, to_le_bytes, from_le_bytes}
 use Rattle.std.specs.List.{enumerate_from}
-use Rattle.spool.specs.Records.{body_content, note_content, body_of, note_of, bodies, notes}
+use Rattle.spool.specs.Records.{body_content, note_content, bodies, notes}
 use Rattle.spool.specs.Spools.{numbered_from}
 
 -- The bodies of records of bodies are these.
@@ -33,9 +32,12 @@ notes-note n small = ap (λ (m : ℕ). m ∷ []) (from_le_bytes-to_le_bytes_8 n 
 -- ---- numbers
 
 -- Bodies after others are numbered from there on.
-pub enumerate-append : (n m : ℕ) (xs ys : List (List ℕ)) → n + length xs ≡ m → enumerate_from n (xs ++ ys) ≡ enumerate_from n xs ++ enumerate_from m ys
-enumerate-append n m [] ys e = let same : n ≡ m = omega (arith, e) in ap (λ (k : ℕ). enumerate_from k ys) same
-enumerate-append n m (x ∷ xs) ys e = ap (λ (l : List (ℕ × List ℕ)). (n, x) ∷ l) (enumerate-append (n + 1) m xs ys (omega (arith, e)))
+pub enumerate-append : (n m : ℕ) (xs ys : List (List ℕ)) → n + length xs ≡ m
+    → enumerate_from n (xs ++ ys) ≡ enumerate_from n xs ++ enumerate_from m ys
+enumerate-append n m [] ys e =
+    let same : n ≡ m = omega (arith, e) in ap (λ (k : ℕ). enumerate_from k ys) same
+enumerate-append n m (x ∷ xs) ys e =
+    ap (λ (l : List (ℕ × List ℕ)). (n, x) ∷ l) (enumerate-append (n + 1) m xs ys (omega (arith, e)))
 
 -- There are as many.
 pub length-enumerate : (n : ℕ) (xs : List (List ℕ)) → length (enumerate_from n xs) ≡ length xs
@@ -43,7 +45,8 @@ length-enumerate n [] = refl
 length-enumerate n (x ∷ xs) = ap suc (length-enumerate (n + 1) xs)
 
 -- Those with a higher number, of those with a number.
-pub drop-numbered : (d n k : ℕ) (bs : List (List ℕ)) → d ≤ n → drop (n - k) (enumerate_from k bs) ≡ numbered_from n (drop (d - k) (enumerate_from k bs))
+pub drop-numbered : (d n k : ℕ) (bs : List (List ℕ)) → d ≤ n
+    → drop (n - k) (enumerate_from k bs) ≡ numbered_from n (drop (d - k) (enumerate_from k bs))
 drop-numbered d n k [] le = drop-nil (n - k) ∙ sym (ap (numbered_from n) (drop-nil (d - k)))
   where
     drop-nil : (j : ℕ) → ◌≡◌ {A = List (ℕ × List ℕ)} (drop j []) []
@@ -54,25 +57,33 @@ drop-numbered d n k (b ∷ bs) le = elim (cases_lt k d) [
       let e : n - k ≡ suc (n - (k + 1)) = omega arith in
       let f : d - k ≡ suc (d - (k + 1)) = omega arith in
       let all = (k, b) ∷ enumerate_from (k + 1) bs in
-      ap (λ (j : ℕ). drop j all) e ∙ (drop-numbered d n (k + 1) bs le ∙ ap (λ (j : ℕ). numbered_from n (drop j all)) (sym f))
+      ap (λ (j : ℕ). drop j all) e
+      ∙ (drop-numbered d n (k + 1) bs le ∙ ap (λ (j : ℕ). numbered_from n (drop j all)) (sym f))
   | inr ge ↦
       let f : d - k ≡ 0 = omega arith in
       let g : d - (k + 1) ≡ 0 = omega arith in
       let others = enumerate_from (k + 1) bs in
-      let rest : drop (n - (k + 1)) others ≡ numbered_from n others = drop-numbered d n (k + 1) bs le ∙ ap (λ (j : ℕ). numbered_from n (drop j others)) g in
+      let rest : drop (n - (k + 1)) others ≡ numbered_from n others =
+      drop-numbered d n (k + 1) bs le ∙ ap (λ (j : ℕ). numbered_from n (drop j others)) g in
       elim (cases_lt k n) [
         | inl below ↦
             let e : n - k ≡ suc (n - (k + 1)) = omega arith in
             let out : nat_le n k ≡ false = lt-leb n k below in
             ap (λ (j : ℕ). drop j ((k, b) ∷ others)) e
-            ∙ (rest ∙ (sym (cond-false (nat_le n k) ((k, b) ∷ numbered_from n others) (numbered_from n others) out) ∙ ap (λ (j : ℕ). numbered_from n (drop j ((k, b) ∷ others))) (sym f)))
+            ∙ (rest
+            ∙ (sym
+            (cond-false (nat_le n k) ((k, b) ∷ numbered_from n others) (numbered_from n others) out)
+            ∙ ap (λ (j : ℕ). numbered_from n (drop j ((k, b) ∷ others))) (sym f)))
         | inr above ↦
             let e : n - k ≡ 0 = omega arith in
             let h : n - (k + 1) ≡ 0 = omega arith in
             let kept : nat_le n k ≡ true = le-leb n k above in
-            let all : others ≡ numbered_from n others = ap (λ (j : ℕ). drop j others) (sym h) ∙ rest in
+            let all : others ≡ numbered_from n others =
+            ap (λ (j : ℕ). drop j others) (sym h) ∙ rest in
             ap (λ (j : ℕ). drop j ((k, b) ∷ others)) e
             ∙ (ap (λ (l : List (ℕ × List ℕ)). (k, b) ∷ l) all
-            ∙ (sym (cond-true (nat_le n k) ((k, b) ∷ numbered_from n others) (numbered_from n others) kept) ∙ ap (λ (j : ℕ). numbered_from n (drop j ((k, b) ∷ others))) (sym f)))
+            ∙ (sym
+            (cond-true (nat_le n k) ((k, b) ∷ numbered_from n others) (numbered_from n others) kept)
+            ∙ ap (λ (j : ℕ). numbered_from n (drop j ((k, b) ∷ others))) (sym f)))
       ]
 ]

@@ -2,6 +2,9 @@ pub mod RecordLaws
 pub mod ContentLaws
 pub mod DiskLaws
 pub mod PutLaws
+pub mod SurveyLaws
+pub mod NoteLaws
+pub mod RemoveLaws
 pub mod CallLaws
 pub mod StateLaws
 pub mod ScanLaws

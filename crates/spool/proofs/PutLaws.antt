@@ -1,26 +1,33 @@
 -- What the files of a spool mean once bodies were put, a delivery was noted, a file was made or one
 -- was removed, and what a crash leaves meanwhile.
-use Rattle.std.proofs.Common.{◌≡◌, ◌⊎◌, ◌≢◌, inl, inr, refl, sym, ap, ap₂, ◌∙◌, subst, ℕ, zero, suc, ◌+◌, ◌-◌, ◌*◌, ◌^◌}
-use Rattle.std.proofs.Common.{◌<◌, ◌≤◌, max, min, List, [], ◌∷◌, ◌++◌, length, take, drop, map, arith, cond, true, false, Bool}
-use Rattle.std.proofs.Common.{append_assoc, length-append}
-use Rattle.std.specs.Prelude.{flat_map, filter_map, filter, nat_le, sum_by, ◌==◌}
-use Rattle.std.proofs.lemmas.Bool.{cases_eq, cases_lt, cases_Bool, le-leb, lt-leb, leb-true, leb-false, cond-true, cond-false}
-use Rattle.std.proofs.lemmas.List.{drop-append-le, append-nil, drop_all, take-map, take_all, map-append, length-take, length-map}
+use Rattle.std.proofs.Common.{◌≡◌, ◌⊎◌, ◌≢◌, inl, inr, refl, sym, ap, ap₂, ◌∙◌, ℕ, zero, suc}
+use Rattle.std.proofs.Common.{◌+◌, ◌-◌, ◌^◌}
+use Rattle.std.proofs.Common.{◌<◌, ◌≤◌, max, min, List, [], ◌∷◌, ◌++◌, length, take, drop, map}
+use Rattle.std.proofs.Common.{arith, true, false}
+use Rattle.std.specs.Prelude.{flat_map, nat_le}
+use Rattle.std.proofs.lemmas.Bool.{cases_lt, cases_Bool, le-leb, lt-leb}
+use Rattle.std.proofs.lemmas.Bool.{cond-true, cond-false}
+use Rattle.std.proofs.lemmas.List.{append-nil, drop_all, take-map}
+use Rattle.std.proofs.lemmas.List.{length-take, length-map}
 use Rattle.std.proofs.lemmas.List.Elements.{filter-append}
 use Rattle.std.proofs.lemmas.List.Sums.{sum_by-append}
 use Rattle.std.specs.List.{enumerate_from, AllByRecursion}
 use Rattle.spool_device.specs.Disks.{SpoolFile, Disk, new_file, grown, grow_last, disk_size}
-use Rattle.spool.specs.Records.{contents, rest, bodies, notes, body_content, note_content, IsContent, spelled}
+use Rattle.spool.specs.Records.{contents, bodies, notes, body_content, note_content}
+use Rattle.spool.specs.Records.{IsContent, spelled}
 use Rattle.spool.specs.Records.{record_bytes, note_size}
-use Rattle.spool.specs.Spools.{bodies_in, notes_in, is_whole, end_of, greatest, done_to, next_number}
-use Rattle.spool.specs.Spools.{waiting_in, waiting_from, waiting, numbered_from, CanGrow, reserved}
-use Rattle.spool.specs.Spools.{LeftByPut, LeftByNote}
+use Rattle.spool.specs.Spools.{bodies_in, notes_in, is_whole, end_of, greatest, done_to}
+use Rattle.spool.specs.Spools.{next_number}
+use Rattle.spool.specs.Spools.{waiting_in, waiting_from, waiting, numbered_from, CanGrow}
+use Rattle.spool.specs.Spools.{LeftByPut}
 use Rattle.spool.specs.Settled.{IsSame, last_done}
-use Rattle.spool.proofs.RecordLaws.{read-on, read-nil, read-spelled, read-cut, nil-length, length-record}
-use Rattle.spool.proofs.ContentLaws.{bodies-put, notes-put, bodies-note, notes-note, enumerate-append}
+use Rattle.spool.proofs.RecordLaws.{read-nil, read-spelled, read-cut}
+use Rattle.spool.proofs.RecordLaws.{length-record}
+use Rattle.spool.proofs.ContentLaws.{bodies-put, notes-put, notes-note}
 use Rattle.spool.proofs.ContentLaws.{length-enumerate, drop-numbered}
-use Rattle.spool.proofs.DiskLaws.{greatest-append, grow-front, done-last, next-last, waiting-last, size-last}
-use Rattle.spool.proofs.DiskLaws.{whole-rest, rest-whole, end-whole, end-torn, grew, grew-whole}
+use Rattle.spool.proofs.DiskLaws.{greatest-append, grow-front, done-last, next-last, waiting-last}
+use Rattle.spool.proofs.DiskLaws.{size-last}
+use Rattle.spool.proofs.DiskLaws.{rest-whole, end-whole, end-torn, grew, grew-whole}
 
 -- ---- numbers
 
@@ -29,63 +36,90 @@ pub done-next : (disk : Disk) → done_to disk ≤ next_number disk
 unfolding next_number
 done-next disk = omega arith
 
-numbered-twice : (n d : ℕ) (bs : List (ℕ × List ℕ)) → numbered_from n (numbered_from d bs) ≡ numbered_from (max n d) bs
+numbered-twice : (n d : ℕ) (bs : List (ℕ × List ℕ))
+    → numbered_from n (numbered_from d bs) ≡ numbered_from (max n d) bs
 numbered-twice n d [] = refl
 numbered-twice n d (b ∷ bs) = elim (cases_lt b.0 d) [
   | inl lt ↦
       let out : nat_le d b.0 ≡ false = lt-leb d b.0 lt in
       let also : nat_le (max n d) b.0 ≡ false = lt-leb (max n d) b.0 (omega arith) in
-      ap (numbered_from n) (cond-false (nat_le d b.0) (b ∷ numbered_from d bs) (numbered_from d bs) out)
-      ∙ (numbered-twice n d bs ∙ sym (cond-false (nat_le (max n d) b.0) (b ∷ numbered_from (max n d) bs) (numbered_from (max n d) bs) also))
+      ap (numbered_from n)
+      (cond-false (nat_le d b.0) (b ∷ numbered_from d bs) (numbered_from d bs) out)
+      ∙ (numbered-twice n d bs
+      ∙ sym (cond-false (nat_le (max n d) b.0) (b ∷ numbered_from (max n d) bs)
+      (numbered_from (max n d) bs) also))
   | inr ge ↦
       let kept : nat_le d b.0 ≡ true = le-leb d b.0 ge in
-      let first = ap (numbered_from n) (cond-true (nat_le d b.0) (b ∷ numbered_from d bs) (numbered_from d bs) kept) in
+      let first =
+      ap (numbered_from n)
+      (cond-true (nat_le d b.0) (b ∷ numbered_from d bs) (numbered_from d bs) kept) in
       elim (cases_lt b.0 n) [
         | inl lt ↦
             let out : nat_le n b.0 ≡ false = lt-leb n b.0 lt in
             let also : nat_le (max n d) b.0 ≡ false = lt-leb (max n d) b.0 (omega arith) in
-            first ∙ (cond-false (nat_le n b.0) (b ∷ numbered_from n (numbered_from d bs)) (numbered_from n (numbered_from d bs)) out
-            ∙ (numbered-twice n d bs ∙ sym (cond-false (nat_le (max n d) b.0) (b ∷ numbered_from (max n d) bs) (numbered_from (max n d) bs) also)))
+            first
+            ∙ (cond-false (nat_le n b.0) (b ∷ numbered_from n (numbered_from d bs))
+            (numbered_from n (numbered_from d bs)) out
+            ∙ (numbered-twice n d bs
+            ∙ sym (cond-false (nat_le (max n d) b.0) (b ∷ numbered_from (max n d) bs)
+            (numbered_from (max n d) bs) also)))
         | inr above ↦
             let in_it : nat_le n b.0 ≡ true = le-leb n b.0 above in
             let also : nat_le (max n d) b.0 ≡ true = le-leb (max n d) b.0 (omega arith) in
-            first ∙ (cond-true (nat_le n b.0) (b ∷ numbered_from n (numbered_from d bs)) (numbered_from n (numbered_from d bs)) in_it
-            ∙ (ap (λ (l : List (ℕ × List ℕ)). b ∷ l) (numbered-twice n d bs) ∙ sym (cond-true (nat_le (max n d) b.0) (b ∷ numbered_from (max n d) bs) (numbered_from (max n d) bs) also)))
+            first
+            ∙ (cond-true (nat_le n b.0) (b ∷ numbered_from n (numbered_from d bs))
+            (numbered_from n (numbered_from d bs)) in_it
+            ∙ (ap (λ (l : List (ℕ × List ℕ)). b ∷ l) (numbered-twice n d bs)
+            ∙ sym (cond-true (nat_le (max n d) b.0) (b ∷ numbered_from (max n d) bs)
+            (numbered_from (max n d) bs) also)))
       ]
 ]
 
 -- What waits from a number on, of all bodies.
-waiting-numbered : (n : ℕ) (disk : Disk) → waiting_from n disk ≡ numbered_from n (waiting_from 0 disk)
+waiting-numbered : (n : ℕ) (disk : Disk)
+    → waiting_from n disk ≡ numbered_from n (waiting_from 0 disk)
 unfolding waiting_from waiting_in
 waiting-numbered n [] = refl
 waiting-numbered n (f ∷ disk) =
-    ap₂ (λ (l : List (ℕ × List ℕ)) (k : List (ℕ × List ℕ)). l ++ k) (drop-numbered 0 n f.number (bodies_in f) (omega arith)) (waiting-numbered n disk)
-    ∙ sym (filter-append (λ b. nat_le n b.0) (drop (0 - f.number) (enumerate_from f.number (bodies_in f))) (waiting_from 0 disk))
+    ap₂ (λ (l : List (ℕ × List ℕ)) (k : List (ℕ × List ℕ)). l ++ k)
+    (drop-numbered 0 n f.number (bodies_in f) (omega arith)) (waiting-numbered n disk)
+    ∙ sym (filter-append (λ b. nat_le n b.0)
+    (drop (0 - f.number) (enumerate_from f.number (bodies_in f))) (waiting_from 0 disk))
 
 -- What waits from a number on, of what waits from another on.
-pub numbered-waiting : (n d : ℕ) (disk : Disk) → numbered_from n (waiting_from d disk) ≡ waiting_from (max n d) disk
+pub numbered-waiting : (n d : ℕ) (disk : Disk)
+    → numbered_from n (waiting_from d disk) ≡ waiting_from (max n d) disk
 numbered-waiting n d disk =
-    ap (numbered_from n) (waiting-numbered d disk) ∙ (numbered-twice n d (waiting_from 0 disk) ∙ sym (waiting-numbered (max n d) disk))
+    ap (numbered_from n) (waiting-numbered d disk)
+    ∙ (numbered-twice n d (waiting_from 0 disk) ∙ sym (waiting-numbered (max n d) disk))
 
 -- Of a file that ends before a number nothing waits from there on.
 pub none-in : (n : ℕ) (file : SpoolFile) → end_of file ≤ n → waiting_in n file ≡ []
 unfolding waiting_in end_of
-none-in n file le = drop_all (n - file.number) (enumerate_from file.number (bodies_in file)) (omega (arith, le, length-enumerate file.number (bodies_in file)))
+none-in n file le =
+    drop_all (n - file.number) (enumerate_from file.number (bodies_in file))
+    (omega (arith, le, length-enumerate file.number (bodies_in file)))
 
 none-from : (n : ℕ) (disk : Disk) → greatest (map end_of disk) ≤ n → waiting_from n disk ≡ []
 unfolding waiting_from
 none-from n [] le = refl
-none-from n (f ∷ disk) le = ap₂ (λ (l : List (ℕ × List ℕ)) (k : List (ℕ × List ℕ)). l ++ k) (none-in n f (omega arith)) (none-from n disk (omega arith))
+none-from n (f ∷ disk) le =
+    ap₂ (λ (l : List (ℕ × List ℕ)) (k : List (ℕ × List ℕ)). l ++ k) (none-in n f (omega arith))
+    (none-from n disk (omega arith))
 
 -- What waits once all below a number is noted, or all that there is.
-pub noted-waiting : (disk : Disk) (n : ℕ) → waiting_from (max (min n (next_number disk)) (done_to disk)) disk ≡ numbered_from n (waiting disk)
+pub noted-waiting : (disk : Disk) (n : ℕ)
+    → waiting_from (max (min n (next_number disk)) (done_to disk)) disk
+    ≡ numbered_from n (waiting disk)
 unfolding waiting next_number
 noted-waiting disk n = elim (cases_lt (next_number disk) n) [
   | inl beyond ↦
       none-from _ disk (omega arith)
-      ∙ (sym (none-from (max n (done_to disk)) disk (omega arith)) ∙ sym (numbered-waiting n (done_to disk) disk))
+      ∙ (sym (none-from (max n (done_to disk)) disk (omega arith))
+      ∙ sym (numbered-waiting n (done_to disk) disk))
   | inr within ↦
-      let same : max (min n (next_number disk)) (done_to disk) ≡ max n (done_to disk) = omega arith in
+      let same : max (min n (next_number disk)) (done_to disk) ≡ max n (done_to disk) =
+      omega arith in
       ap (λ (m : ℕ). waiting_from m disk) same ∙ sym (numbered-waiting n (done_to disk) disk)
 ]
 
@@ -95,28 +129,35 @@ noted-waiting disk n = elim (cases_lt (next_number disk) n) [
 abbrev pub put_contents : List (List ℕ) → List (List ℕ)
 put_contents bs = map body_content bs
 
-module _ (disk : Disk) (bs : List (List ℕ)) (can : CanGrow disk) (all : AllByRecursion IsContent (put_contents bs)) where
+module _ (disk : Disk) (bs : List (List ℕ)) (can : CanGrow disk)
+    (all : AllByRecursion IsContent (put_contents bs)) where
   length-cut : (k : ℕ) (xs : List ℕ) → length (take k xs) ≤ length xs
   length-cut k xs = omega (arith, length-take k xs)
 
   -- What a crash leaves while the records are written.
-  pub put-cut : (limit k : ℕ) → disk_size disk + length (spelled (put_contents bs)) ≤ limit → LeftByPut disk bs limit (grow_last (take k (spelled (put_contents bs))) disk)
+  pub put-cut : (limit k : ℕ) → disk_size disk + length (spelled (put_contents bs)) ≤ limit
+      → LeftByPut disk bs limit (grow_last (take k (spelled (put_contents bs))) disk)
   unfolding waiting
   put-cut limit k fits =
       let more = take k (spelled (put_contents bs)) in
       let cut = read-cut (put_contents bs) k all in
       let g = grew disk more can in
-      let some : contents more ≡ put_contents (take cut.count bs) = cut.are ∙ take-map body_content cut.count bs in
-      let bodies_are : bodies (contents more) ≡ take cut.count bs = ap bodies some ∙ bodies-put (take cut.count bs) in
+      let some : contents more ≡ put_contents (take cut.count bs) =
+      cut.are ∙ take-map body_content cut.count bs in
+      let bodies_are : bodies (contents more) ≡ take cut.count bs =
+      ap bodies some ∙ bodies-put (take cut.count bs) in
       let notes_are : notes (contents more) ≡ [] = ap notes some ∙ notes-put (take cut.count bs) in
-      let done : done_to (grow_last more disk) ≡ done_to disk = g.done ∙ (ap (λ (l : List ℕ). max (done_to disk) (greatest l)) notes_are ∙ omega arith) in
+      let done : done_to (grow_last more disk) ≡ done_to disk =
+      g.done ∙ (ap (λ (l : List ℕ). max (done_to disk) (greatest l)) notes_are ∙ omega arith) in
       record {
         count = cut.count;
         few = omega (arith, cut.few, length-map-put);
         waits =
             ap (λ (n : ℕ). waiting_from n (grow_last more disk)) done
             ∙ (g.waits (done_to disk) (done-next disk)
-            ∙ ap (λ (l : List (List ℕ)). waiting_from (done_to disk) disk ++ enumerate_from (next_number disk) l) bodies_are);
+            ∙ ap (λ (l : List (List ℕ)).
+            waiting_from (done_to disk) disk ++ enumerate_from (next_number disk) l)
+            bodies_are);
         within = omega (arith, g.size, fits, length-cut k (spelled (put_contents bs)));
       }
     where
@@ -124,7 +165,8 @@ module _ (disk : Disk) (bs : List (List ℕ)) (can : CanGrow disk) (all : AllByR
       length-map-put = length-map bs body_content
 
 -- What is there once bodies were put.
-pub record Put (disk : Disk) (bs : List (List ℕ)) (can : CanGrow disk) (more : List ℕ) : Type 0 where
+pub record Put (disk : Disk) (bs : List (List ℕ)) (can : CanGrow disk)
+    (more : List ℕ) : Type 0 where
   pub waits : waiting (grow_last more disk) ≡ waiting disk ++ enumerate_from (next_number disk) bs
   pub done : done_to (grow_last more disk) ≡ done_to disk
   pub next : next_number (grow_last more disk) ≡ next_number disk + length bs
@@ -132,7 +174,9 @@ pub record Put (disk : Disk) (bs : List (List ℕ)) (can : CanGrow disk) (more :
   pub grows : CanGrow (grow_last more disk)
   pub end : end_of (grown more can.last) ≡ next_number disk + length bs
 
-pub put-whole : (disk : Disk) (bs : List (List ℕ)) (can : CanGrow disk) → AllByRecursion IsContent (put_contents bs) → Put disk bs can (spelled (put_contents bs))
+-- What is there once all records of bodies were written.
+pub put-whole : (disk : Disk) (bs : List (List ℕ)) (can : CanGrow disk)
+    → AllByRecursion IsContent (put_contents bs) → Put disk bs can (spelled (put_contents bs))
 unfolding waiting
 put-whole disk bs can all =
     let more = spelled (put_contents bs) in
@@ -141,14 +185,19 @@ put-whole disk bs can all =
     let w = grew-whole disk more can read.1 in
     let bodies_are : bodies (contents more) ≡ bs = ap bodies read.0 ∙ bodies-put bs in
     let notes_are : notes (contents more) ≡ [] = ap notes read.0 ∙ notes-put bs in
-    let done : done_to (grow_last more disk) ≡ done_to disk = g.done ∙ (ap (λ (l : List ℕ). max (done_to disk) (greatest l)) notes_are ∙ omega arith) in
-    let end : end_of (grown more can.last) ≡ next_number disk + length bs = w.1 ∙ ap (λ (l : List (List ℕ)). next_number disk + length l) bodies_are in
-    let next : next_number (grow_last more disk) ≡ next_number disk + length bs = w.2 ∙ omega (arith, done, done-next disk, ap length bodies_are) in
+    let done : done_to (grow_last more disk) ≡ done_to disk =
+    g.done ∙ (ap (λ (l : List ℕ). max (done_to disk) (greatest l)) notes_are ∙ omega arith) in
+    let end : end_of (grown more can.last) ≡ next_number disk + length bs =
+    w.1 ∙ ap (λ (l : List (List ℕ)). next_number disk + length l) bodies_are in
+    let next : next_number (grow_last more disk) ≡ next_number disk + length bs =
+    w.2 ∙ omega (arith, done, done-next disk, ap length bodies_are) in
     record {
       waits =
           ap (λ (n : ℕ). waiting_from n (grow_last more disk)) done
           ∙ (g.waits (done_to disk) (done-next disk)
-          ∙ ap (λ (l : List (List ℕ)). waiting_from (done_to disk) disk ++ enumerate_from (next_number disk) l) bodies_are);
+          ∙ ap (λ (l : List (List ℕ)).
+          waiting_from (done_to disk) disk ++ enumerate_from (next_number disk) l)
+          bodies_are);
       done = done;
       next = next;
       size = g.size;
@@ -170,7 +219,8 @@ note_bytes n = spelled (note_content n ∷ [])
 
 -- A note takes 17 bytes.
 pub length-note : (n : ℕ) → length (note_bytes n) ≡ note_size
-length-note n = ap length (append-nil (record_bytes (note_content n))) ∙ length-record (note_content n)
+length-note n =
+    ap length (append-nil (record_bytes (note_content n))) ∙ length-record (note_content n)
 
 -- What is there once a note was written.
 pub record Noted (disk : Disk) (n : ℕ) (can : CanGrow disk) : Type 0 where
@@ -181,7 +231,9 @@ pub record Noted (disk : Disk) (n : ℕ) (can : CanGrow disk) : Type 0 where
   pub grows : CanGrow (grow_last (note_bytes n) disk)
   pub end : end_of (grown (note_bytes n) can.last) ≡ next_number disk
 
-module _ (disk : Disk) (n : ℕ) (can : CanGrow disk) (is : IsContent (note_content n)) (small : n < 2 ^ 64) (later : done_to disk ≤ n) (there : n ≤ next_number disk) where
+module _ (disk : Disk) (n : ℕ) (can : CanGrow disk) (is : IsContent (note_content n))
+    (small : n < 2 ^ 64) (later : done_to disk ≤ n) (there : n ≤ next_number disk) where
+  -- What is there once the record of a note was written.
   pub note-whole : Noted disk n can
   unfolding waiting
   note-whole =
@@ -191,14 +243,21 @@ module _ (disk : Disk) (n : ℕ) (can : CanGrow disk) (is : IsContent (note_cont
       let w = grew-whole disk more can read.1 in
       let bodies_are : bodies (contents more) ≡ [] = ap bodies read.0 in
       let notes_are : notes (contents more) ≡ n ∷ [] = ap notes read.0 ∙ notes-note n small in
-      let done : done_to (grow_last more disk) ≡ n = g.done ∙ (ap (λ (l : List ℕ). max (done_to disk) (greatest l)) notes_are ∙ omega (arith, later)) in
-      let end : end_of (grown more can.last) ≡ next_number disk = w.1 ∙ omega (arith, ap length bodies_are) in
-      let next : next_number (grow_last more disk) ≡ next_number disk = w.2 ∙ omega (arith, done, there, ap length bodies_are) in
+      let done : done_to (grow_last more disk) ≡ n =
+      g.done
+      ∙ (ap (λ (l : List ℕ). max (done_to disk) (greatest l)) notes_are ∙ omega (arith, later)) in
+      let end : end_of (grown more can.last) ≡ next_number disk =
+      w.1 ∙ omega (arith, ap length bodies_are) in
+      let next : next_number (grow_last more disk) ≡ next_number disk =
+      w.2 ∙ omega (arith, done, there, ap length bodies_are) in
       record {
         waits =
             ap (λ (m : ℕ). waiting_from m (grow_last more disk)) done
             ∙ (g.waits n there
-            ∙ (ap (λ (l : List (List ℕ)). waiting_from n disk ++ enumerate_from (next_number disk) l) bodies_are ∙ append-nil (waiting_from n disk)));
+            ∙ (ap
+            (λ (l : List (List ℕ)). waiting_from n disk ++ enumerate_from (next_number disk) l)
+            bodies_are
+            ∙ append-nil (waiting_from n disk)));
         done = done;
         next = next;
         size = g.size ∙ ap (λ (k : ℕ). disk_size disk + k) (length-note n);
@@ -213,7 +272,9 @@ module _ (disk : Disk) (n : ℕ) (can : CanGrow disk) (is : IsContent (note_cont
       }
 
   -- What a crash leaves while it is written.
-  pub note-cut : (k : ℕ) → (waiting (grow_last (take k (note_bytes n)) disk) ≡ waiting disk) ⊎ (waiting (grow_last (take k (note_bytes n)) disk) ≡ waiting_from n disk)
+  pub note-cut : (k : ℕ)
+      → (waiting (grow_last (take k (note_bytes n)) disk) ≡ waiting disk)
+      ⊎ (waiting (grow_last (take k (note_bytes n)) disk) ≡ waiting_from n disk)
   unfolding waiting
   note-cut k =
       let more = take k (note_bytes n) in
@@ -222,24 +283,45 @@ module _ (disk : Disk) (n : ℕ) (can : CanGrow disk) (is : IsContent (note_cont
       elim (cases_lt cut.count 1) [
         | inl none ↦
             let z : cut.count ≡ 0 = omega (arith, none) in
-            let some : contents more ≡ [] = cut.are ∙ ap (λ (j : ℕ). take j (note_content n ∷ [])) z in
-            let done : done_to (grow_last more disk) ≡ done_to disk = g.done ∙ (ap (λ (l : List (List ℕ)). max (done_to disk) (greatest (notes l))) some ∙ omega arith) in
+            let some : contents more ≡ [] =
+            cut.are ∙ ap (λ (j : ℕ). take j (note_content n ∷ [])) z in
+            let done : done_to (grow_last more disk) ≡ done_to disk =
+            g.done
+            ∙ (ap (λ (l : List (List ℕ)). max (done_to disk) (greatest (notes l))) some
+            ∙ omega arith) in
             inl (ap (λ (m : ℕ). waiting_from m (grow_last more disk)) done
             ∙ (g.waits (done_to disk) (done-next disk)
-            ∙ (ap (λ (l : List (List ℕ)). waiting_from (done_to disk) disk ++ enumerate_from (next_number disk) (bodies l)) some ∙ append-nil (waiting_from (done_to disk) disk))))
+            ∙ (ap (λ (l : List (List ℕ)).
+            waiting_from (done_to disk) disk ++ enumerate_from (next_number disk) (bodies l))
+            some
+            ∙ append-nil (waiting_from (done_to disk) disk))))
         | inr one ↦
             let o : cut.count ≡ 1 = omega (arith, one, cut.few) in
-            let some : contents more ≡ note_content n ∷ [] = cut.are ∙ ap (λ (j : ℕ). take j (note_content n ∷ [])) o in
+            let some : contents more ≡ note_content n ∷ [] =
+            cut.are ∙ ap (λ (j : ℕ). take j (note_content n ∷ [])) o in
             let notes_are : notes (contents more) ≡ n ∷ [] = ap notes some ∙ notes-note n small in
-            let done : done_to (grow_last more disk) ≡ n = g.done ∙ (ap (λ (l : List ℕ). max (done_to disk) (greatest l)) notes_are ∙ omega (arith, later)) in
+            let done : done_to (grow_last more disk) ≡ n =
+            g.done
+            ∙ (ap (λ (l : List ℕ). max (done_to disk) (greatest l)) notes_are
+            ∙ omega (arith, later)) in
             inr (ap (λ (m : ℕ). waiting_from m (grow_last more disk)) done
             ∙ (g.waits n there
-            ∙ (ap (λ (l : List (List ℕ)). waiting_from n disk ++ enumerate_from (next_number disk) (bodies l)) some ∙ append-nil (waiting_from n disk))))
+            ∙ (ap (λ (l : List (List ℕ)).
+            waiting_from n disk ++ enumerate_from (next_number disk) (bodies l))
+            some
+            ∙ append-nil (waiting_from n disk))))
       ]
 
   -- The files are no larger than with the whole note.
-  pub note-size : (k : ℕ) → disk_size (grow_last (take k (note_bytes n)) disk) ≤ disk_size disk + note_size
-  note-size k = omega (arith, (grew disk (take k (note_bytes n)) can).size, length-take k (note_bytes n), length-note n)
+  pub note-size : (k : ℕ)
+      → disk_size (grow_last (take k (note_bytes n)) disk) ≤ disk_size disk + note_size
+  note-size k =
+      omega (
+        arith,
+        (grew disk (take k (note_bytes n)) can).size,
+        length-take k (note_bytes n),
+        length-note n,
+      )
 
 -- ---- a file that is made
 
@@ -262,12 +344,20 @@ made disk =
     let no_bodies : bodies_in file ≡ [] = ap bodies read-nil.0 in
     let no_notes : notes_in file ≡ [] = ap notes read-nil.0 in
     let whole : is_whole file ≡ true = rest-whole file read-nil.1 in
-    let end : end_of file ≡ next_number disk = end-whole file whole ∙ omega (arith, ap length no_bodies) in
-    let done : done_to (disk ++ file ∷ []) ≡ done_to disk = done-last disk file ∙ (ap (λ (l : List ℕ). max (greatest (flat_map notes_in disk)) (greatest l)) no_notes ∙ (max-nothing (greatest (flat_map notes_in disk)) ∙ sym (done-is disk))) in
+    let end : end_of file ≡ next_number disk =
+    end-whole file whole ∙ omega (arith, ap length no_bodies) in
+    let done : done_to (disk ++ file ∷ []) ≡ done_to disk =
+    done-last disk file
+    ∙ (ap (λ (l : List ℕ). max (greatest (flat_map notes_in disk)) (greatest l)) no_notes
+    ∙ (max-nothing (greatest (flat_map notes_in disk)) ∙ sym (done-is disk))) in
     record {
       waits = λ n.
           waiting-last disk file n
-          ∙ (ap (λ (l : List (ℕ × List ℕ)). waiting_from n disk ++ l) (ap (λ (l : List (List ℕ)). drop (n - file.number) (enumerate_from file.number l)) no_bodies ∙ drop-nil (n - file.number)) ∙ append-nil (waiting_from n disk));
+          ∙ (ap (λ (l : List (ℕ × List ℕ)). waiting_from n disk ++ l)
+          (ap
+          (λ (l : List (List ℕ)). drop (n - file.number) (enumerate_from file.number l)) no_bodies
+          ∙ drop-nil (n - file.number))
+          ∙ append-nil (waiting_from n disk));
       done = done;
       next = next-last disk file ∙ omega (arith, done, end);
       size = size-last disk file ∙ omega arith;
@@ -280,11 +370,20 @@ made-grows disk =
     let file = new_file (next_number disk) in
     let no_bodies : bodies_in file ≡ [] = ap bodies read-nil.0 in
     let whole : is_whole file ≡ true = rest-whole file read-nil.1 in
-    let end : end_of file ≡ next_number disk = end-whole file whole ∙ omega (arith, ap length no_bodies) in
-    record { front = disk; last = file; split = refl; whole = whole; end = end ∙ sym (made disk).next }
+    let end : end_of file ≡ next_number disk =
+    end-whole file whole ∙ omega (arith, ap length no_bodies) in
+    record {
+      front = disk;
+      last = file;
+      split = refl;
+      whole = whole;
+      end = end ∙ sym (made disk).next;
+    }
 
 -- A file whose bodies can't go on to the next number ends before it, or has a lower number.
-pub number-below : (front : Disk) (last : SpoolFile) → (is_whole last ≡ false) ⊎ (end_of last ≢ next_number (front ++ last ∷ [])) → last.number < next_number (front ++ last ∷ [])
+pub number-below : (front : Disk) (last : SpoolFile)
+    → (is_whole last ≡ false) ⊎ (end_of last ≢ next_number (front ++ last ∷ []))
+    → last.number < next_number (front ++ last ∷ [])
 number-below front last (inl torn) = omega (arith, end-torn last torn, next-last front last)
 number-below front last (inr other) = elim (cases_Bool (is_whole last)) [
   | inl is ↦ omega (arith, end-whole last is, next-last front last, other)
@@ -298,10 +397,13 @@ pub last-done-below : (disk : Disk) → last_done disk ≤ done_to disk
 unfolding done_to
 last-done-below [] = omega arith
 last-done-below (f ∷ []) = omega (arith, ap greatest (append-nil (notes_in f)))
-last-done-below (f ∷ g ∷ disk) = omega (arith, last-done-below (g ∷ disk), greatest-append (notes_in f) (flat_map notes_in (g ∷ disk)))
+last-done-below (f ∷ g ∷ disk) =
+    omega
+    (arith, last-done-below (g ∷ disk), greatest-append (notes_in f) (flat_map notes_in (g ∷ disk)))
 
 -- The newest file is at the end.
-pub last-done-at : (front : Disk) (last : SpoolFile) → last_done (front ++ last ∷ []) ≡ greatest (notes_in last)
+pub last-done-at : (front : Disk) (last : SpoolFile)
+    → last_done (front ++ last ∷ []) ≡ greatest (notes_in last)
 last-done-at [] last = refl
 last-done-at (f ∷ []) last = refl
 last-done-at (f ∷ g ∷ front) last = last-done-at (g ∷ front) last
@@ -314,22 +416,40 @@ pub record WithoutFirst (first : SpoolFile) (disk : Disk) : Type 0 where
   pub size : length first.bytes + disk_size disk ≡ disk_size (first ∷ disk)
 
 -- Where all of a file's bodies are noted, by the newest file, it can be removed.
-pub without-first : (first next : SpoolFile) (disk : Disk) → last_done (first ∷ next ∷ disk) ≡ done_to (first ∷ next ∷ disk) → end_of first ≤ done_to (first ∷ next ∷ disk) → WithoutFirst first (next ∷ disk)
+pub without-first : (first next : SpoolFile) (disk : Disk)
+    → last_done (first ∷ next ∷ disk) ≡ done_to (first ∷ next ∷ disk)
+    → end_of first ≤ done_to (first ∷ next ∷ disk) → WithoutFirst first (next ∷ disk)
 unfolding waiting waiting_from done_to next_number
 without-first first next disk noted ended =
     let others = next ∷ disk in
-    let done : done_to others ≡ done_to (first ∷ others) = omega (arith, last-done-below others, noted, greatest-append (notes_in first) (flat_map notes_in others)) in
+    let done : done_to others ≡ done_to (first ∷ others) =
+    omega (
+      arith,
+      last-done-below others,
+      noted,
+      greatest-append (notes_in first) (flat_map notes_in others),
+    ) in
     record {
-      waits = ap (λ (n : ℕ). waiting_from n others) done ∙ sym (ap (λ (l : List (ℕ × List ℕ)). l ++ waiting_from (done_to (first ∷ others)) others) (none-in (done_to (first ∷ others)) first ended));
+      waits =
+          ap (λ (n : ℕ). waiting_from n others) done
+          ∙ sym (ap (λ (l : List (ℕ × List ℕ)). l ++ waiting_from (done_to (first ∷ others)) others)
+          (none-in (done_to (first ∷ others)) first ended));
       done = done;
       next = omega (arith, done, ended);
-      size = omega (arith, sum_by-append (λ (f : SpoolFile). length f.bytes) (first ∷ []) (next ∷ disk));
+      size =
+          omega
+          (arith, sum_by-append (λ (f : SpoolFile). length f.bytes) (first ∷ []) (next ∷ disk));
     }
 
 -- The others can grow as before.
-pub grows-without : (first next : SpoolFile) (disk : Disk) → next_number (next ∷ disk) ≡ next_number (first ∷ next ∷ disk) → CanGrow (first ∷ next ∷ disk) → CanGrow (next ∷ disk)
+pub grows-without : (first next : SpoolFile) (disk : Disk)
+    → next_number (next ∷ disk) ≡ next_number (first ∷ next ∷ disk) → CanGrow (first ∷ next ∷ disk)
+    → CanGrow (next ∷ disk)
 grows-without first next disk same can = go can.front can.last can.split can.whole can.end
   where
-    go : (front : Disk) (last : SpoolFile) → first ∷ next ∷ disk ≡ front ++ last ∷ [] → is_whole last ≡ true → end_of last ≡ next_number (first ∷ next ∷ disk) → CanGrow (next ∷ disk)
+    go : (front : Disk) (last : SpoolFile) → first ∷ next ∷ disk ≡ front ++ last ∷ []
+        → is_whole last ≡ true → end_of last ≡ next_number (first ∷ next ∷ disk)
+        → CanGrow (next ∷ disk)
     go [] last split whole end = absurd (cc)
-    go (f ∷ front) last split whole end = record { front = front; last = last; split = cc; whole = whole; end = end ∙ sym same }
+    go (f ∷ front) last split whole end =
+        record { front = front; last = last; split = cc; whole = whole; end = end ∙ sym same }

@@ -1,13 +1,15 @@
 -- What a spool knows of its files after each step.
-use Rattle.std.proofs.Common.{◌≡◌, ◌≢◌, ◌⊎◌, inl, inr, refl, sym, ap, ap₂, ◌∙◌, subst, ℕ, ◌+◌, ◌-◌, ◌*◌, ◌^◌, ◌<◌, ◌≤◌, min, max}
-use Rattle.std.proofs.Common.{List, [], ◌∷◌, ◌++◌, length, map, drop, take, arith, append_assoc, length-append}
+use Rattle.std.proofs.Common.{◌≡◌, ◌≢◌, inl, inr, refl, sym, ap, ap₂, ◌∙◌, subst, ℕ, ◌+◌, ◌-◌}
+use Rattle.std.proofs.Common.{◌^◌, ◌<◌, min}
+use Rattle.std.proofs.Common.{List, [], ◌∷◌, ◌++◌, length, map, arith}
+use Rattle.std.proofs.Common.{length-append}
 use Rattle.std.specs.Prelude.{Option, Some, None, IsSome}
 use Rattle.std.specs.Option.{option_to_list}
-use Rattle.std.proofs.lemmas.List.{append-nil, map-append, same_from_push}
+use Rattle.std.proofs.lemmas.List.{map-append, same_from_push}
 use Rattle.spool_device.specs.Disks.{SpoolFile, Disk, new_file, grown, grow_last, disk_size}
-use Rattle.spool_device.specs.Crashes.{Created, Appended, Removed, Only, LeavesOnly}
+use Rattle.spool_device.specs.Crashes.{Created, Only}
 use Rattle.spool.specs.Records.{bodies}
-use Rattle.spool.specs.Spools.{bodies_in, is_whole, end_of, done_to, next_number, waiting, CanGrow}
+use Rattle.spool.specs.Spools.{bodies_in, end_of, done_to, next_number, CanGrow}
 use Rattle.spool.specs.Settled.{segment_of, IsSettled, IsSame, Grows, grown_by}
 use Rattle.spool.specs.declared.state.Segment.{Segment}
 use Rattle.spool.specs.declared.state.Spool.{Spool}
@@ -16,11 +18,16 @@ use Rattle.spool.proofs.DiskLaws.{grow-front, next-last, size-last, rest-whole, 
 use Rattle.spool.proofs.PutLaws.{made, made-grows}
 
 -- Where the file that grows has bodies, a new one has a higher number.
-pub below-growing : (older : List Segment) (segment : Segment) (front : Disk) (last : SpoolFile) (disk : Disk) → older ++ segment ∷ [] ≡ map segment_of disk → disk ≡ front ++ last ∷ [] → segment.number ≢ segment.«end» → last.number < next_number disk
+pub below-growing : (older : List Segment) (segment : Segment) (front : Disk) (last : SpoolFile)
+    (disk : Disk)
+    → older ++ segment ∷ [] ≡ map segment_of disk → disk ≡ front ++ last ∷ []
+    → segment.number ≢ segment.«end» → last.number < next_number disk
 unfolding end_of
 below-growing older segment front last disk are split other =
-    let at_end : older ++ segment ∷ [] ≡ map segment_of front ++ segment_of last ∷ [] = are ∙ (ap (map segment_of) split ∙ map-append segment_of front (last ∷ [])) in
-    let same : segment ≡ segment_of last = (same_from_push older (map segment_of front) segment (segment_of last) at_end).1 in
+    let at_end : older ++ segment ∷ [] ≡ map segment_of front ++ segment_of last ∷ [] =
+    are ∙ (ap (map segment_of) split ∙ map-append segment_of front (last ∷ [])) in
+    let same : segment ≡ segment_of last =
+    (same_from_push older (map segment_of front) segment (segment_of last) at_end).1 in
     let number : segment.number ≡ last.number = ap (λ (s : Segment). s.number) same in
     let ends : segment.«end» ≡ end_of last = ap (λ (s : Segment). s.«end») same in
     let next : next_number disk ≡ _ = ap next_number split ∙ next-last front last in
@@ -31,23 +38,30 @@ pub end-new : (n : ℕ) → end_of (new_file n) ≡ n
 unfolding bodies_in
 end-new n =
     let file = new_file n in
-    end-whole file (rest-whole file read-nil.1) ∙ omega (arith, ap (λ (l : List (List ℕ)). n + length (bodies l)) read-nil.0)
+    end-whole file (rest-whole file read-nil.1)
+    ∙ omega (arith, ap (λ (l : List (List ℕ)). n + length (bodies l)) read-nil.0)
 
 -- The same files mean the same.
 pub same-refl : (disk left : Disk) → left ≡ disk → IsSame disk left
-same-refl disk left is = subst (λ (d : Disk). IsSame disk d) (sym is) (record { waits = λ n. refl; done = refl; next = refl; size = refl })
+same-refl disk left is =
+    subst (λ (d : Disk). IsSame disk d) (sym is)
+    (record { waits = λ n. refl; done = refl; next = refl; size = refl })
 
 -- So do those with a new file.
-pub same-made : (disk left : Disk) (n : ℕ) → n ≡ next_number disk → left ≡ disk ++ new_file n ∷ [] → IsSame disk left
+pub same-made : (disk left : Disk) (n : ℕ) → n ≡ next_number disk → left ≡ disk ++ new_file n ∷ []
+    → IsSame disk left
 same-made disk left n is now =
-    subst (λ (d : Disk). IsSame disk d) (sym (now ∙ ap (λ (k : ℕ). disk ++ new_file k ∷ []) is)) (made disk)
+    subst (λ (d : Disk). IsSame disk d) (sym (now ∙ ap (λ (k : ℕ). disk ++ new_file k ∷ []) is))
+    (made disk)
 
 -- A crash leaves one or the other.
-pub same-created : (disk left : Disk) (n : ℕ) → n ≡ next_number disk → Created n disk left → IsSame disk left
+pub same-created : (disk left : Disk) (n : ℕ) → n ≡ next_number disk → Created n disk left
+    → IsSame disk left
 same-created disk left n is (inl before) = same-refl disk left before
 same-created disk left n is (inr after) = same-made disk left n is after
 
-module _ {D : Type 0} (files : D → Disk) (moment : D → ℕ) (left_at : D → ℕ → Disk → Type 0) (old new : Spool D) (was : IsSettled files moment left_at old) where
+module _ {D : Type 0} (files : D → Disk) (moment : D → ℕ) (left_at : D → ℕ → Disk → Type 0)
+    (old new : Spool D) (was : IsSettled files moment left_at old) where
   abbrev before : Disk
   before = files old.device
 
@@ -55,35 +69,52 @@ module _ {D : Type 0} (files : D → Disk) (moment : D → ℕ) (left_at : D →
   after = files new.device
 
   -- A new file has the highest number.
-  pub below-next : ((segment : Segment) → old.growing ≡ Some segment → segment.number ≢ segment.«end») → (front : Disk) (last : SpoolFile) → before ≡ front ++ last ∷ [] → last.number < old.next
+  pub below-next :
+      ((segment : Segment) → old.growing ≡ Some segment → segment.number ≢ segment.«end»)
+      → (front : Disk) (last : SpoolFile) → before ≡ front ++ last ∷ [] → last.number < old.next
   below-next other front last split = go old.growing refl
     where
       go : (o : Option Segment) → old.growing ≡ o → last.number < old.next
       go None is = subst (λ (n : ℕ). last.number < n) (sym was.next) (was.shut is front last split)
       go (Some segment) is =
-          subst (λ (n : ℕ). last.number < n) (sym was.next) (below-growing old.older.items segment front last before
-          (ap (λ (o : Option Segment). old.older.items ++ option_to_list o) (sym is) ∙ was.segments) split (other segment is))
+          subst (λ (n : ℕ). last.number < n) (sym was.next)
+          (below-growing old.older.items segment front last before
+          (ap (λ (o : Option Segment). old.older.items ++ option_to_list o) (sym is) ∙ was.segments)
+          split
+          (other segment is))
 
   -- After a file was made.
-  pub settled-made : new.older.items ≡ old.older.items ++ option_to_list old.growing → new.growing ≡ Some (record { number = old.next; «end» = old.next; len = 0 }) → new.done ≡ old.done → new.next ≡ old.next → new.size ≡ old.size → after ≡ before ++ new_file old.next ∷ [] → Only after (left_at new.device (moment new.device)) → IsSettled files moment left_at new
+  pub settled-made : new.older.items ≡ old.older.items ++ option_to_list old.growing
+      → new.growing ≡ Some (record { number = old.next; «end» = old.next; len = 0 })
+      → new.done ≡ old.done → new.next ≡ old.next → new.size ≡ old.size
+      → after ≡ before ++ new_file old.next ∷ []
+      → Only after (left_at new.device (moment new.device)) → IsSettled files moment left_at new
   settled-made older growing done next size now only =
       let same = same-made before after old.next was.next now in
-      let segment : segment_of (new_file old.next) ≡ record { number = old.next; «end» = old.next; len = 0 } = ap (λ (k : ℕ). record { number = old.next; «end» = k; len = 0 }) (end-new old.next) in
+      let segment : segment_of (new_file old.next)
+      ≡ record { number = old.next; «end» = old.next; len = 0 } =
+      ap (λ (k : ℕ). record { number = old.next; «end» = k; len = 0 }) (end-new old.next) in
       record {
         segments =
             ap₂ (λ (l : List Segment) (o : Option Segment). l ++ option_to_list o) older growing
             ∙ (ap₂ (λ (l : List Segment) (s : Segment). l ++ s ∷ []) was.segments (sym segment)
-            ∙ (sym (map-append segment_of before (new_file old.next ∷ [])) ∙ ap (map segment_of) (sym now)));
+            ∙ (sym (map-append segment_of before (new_file old.next ∷ []))
+            ∙ ap (map segment_of) (sym now)));
         done = done ∙ (was.done ∙ sym same.done);
         next = next ∙ (was.next ∙ sym same.next);
         size = size ∙ (was.size ∙ sym same.size);
-        grows = λ _. subst CanGrow (sym (now ∙ ap (λ (k : ℕ). before ++ new_file k ∷ []) was.next)) (made-grows before);
+        grows =
+            λ _. subst CanGrow (sym (now ∙ ap (λ (k : ℕ). before ++ new_file k ∷ []) was.next))
+            (made-grows before);
         shut = λ none. absurd (cc (none, growing));
         durable = only;
       }
 
   -- After the newest file grew.
-  pub settled-written : (more : List ℕ) → Grows before more new.next new.done new.size → IsSome old.growing → new.size < 2 ^ 64 → new.older.items ≡ old.older.items → new.growing ≡ grown_by new.next (length more) old.growing → after ≡ grow_last more before → Only after (left_at new.device (moment new.device)) → IsSettled files moment left_at new
+  pub settled-written : (more : List ℕ) → Grows before more new.next new.done new.size
+      → IsSome old.growing → new.size < 2 ^ 64 → new.older.items ≡ old.older.items
+      → new.growing ≡ grown_by new.next (length more) old.growing → after ≡ grow_last more before
+      → Only after (left_at new.device (moment new.device)) → IsSettled files moment left_at new
   settled-written more g some small older growing now only =
       record {
         segments = go old.growing refl some;
@@ -95,24 +126,42 @@ module _ {D : Type 0} (files : D → Disk) (moment : D → ℕ) (left_at : D →
         durable = only;
       }
     where
-      go : (o : Option Segment) → old.growing ≡ o → IsSome o → new.older.items ++ option_to_list new.growing ≡ map segment_of after
+      go : (o : Option Segment) → old.growing ≡ o → IsSome o
+          → new.older.items ++ option_to_list new.growing ≡ map segment_of after
       go None is there = absurd (cc)
       go (Some segment) is there =
           let front = g.can.front in
           let last = g.can.last in
-          let at_end : old.older.items ++ segment ∷ [] ≡ map segment_of front ++ segment_of last ∷ [] =
-          ap (λ (o : Option Segment). old.older.items ++ option_to_list o) (sym is) ∙ (was.segments ∙ (ap (map segment_of) g.can.split ∙ map-append segment_of front (last ∷ []))) in
-          let both = same_from_push old.older.items (map segment_of front) segment (segment_of last) at_end in
+          let at_end : old.older.items ++ segment ∷ []
+          ≡ map segment_of front ++ segment_of last ∷ [] =
+          ap (λ (o : Option Segment). old.older.items ++ option_to_list o) (sym is)
+          ∙ (was.segments
+          ∙ (ap (map segment_of) g.can.split ∙ map-append segment_of front (last ∷ []))) in
+          let both =
+          same_from_push old.older.items (map segment_of front) segment (segment_of last) at_end in
           let number : segment.number ≡ last.number = ap (λ (s : Segment). s.number) both.1 in
           let len : segment.len ≡ length last.bytes = ap (λ (s : Segment). s.len) both.1 in
-          let grew : grow_last more before ≡ front ++ grown more last ∷ [] = ap (grow_last more) g.can.split ∙ grow-front more front last in
+          let grew : grow_last more before ≡ front ++ grown more last ∷ [] =
+          ap (grow_last more) g.can.split ∙ grow-front more front last in
           let fits : min (segment.len + length more) (2 ^ 64 - 1) ≡ length (last.bytes ++ more) =
-          omega (arith, len, small, length-append last.bytes more, g.size_is, ap disk_size grew, size-last front (grown more last)) in
-          let segment_is : grown_by new.next (length more) (Some segment) ≡ Some (segment_of (grown more last)) =
+          omega (
+            arith,
+            len,
+            small,
+            length-append last.bytes more,
+            g.size_is,
+            ap disk_size grew,
+            size-last front (grown more last),
+          ) in
+          let segment_is : grown_by new.next (length more) (Some segment)
+          ≡ Some (segment_of (grown more last)) =
           (λ i. Some (record { number = number i; «end» = sym g.end i; len = fits i })) in
-          ap₂ (λ (l : List Segment) (o : Option Segment). l ++ option_to_list o) (older ∙ both.0) (growing ∙ (ap (grown_by new.next (length more)) is ∙ segment_is))
-          ∙ (sym (map-append segment_of front (grown more last ∷ [])) ∙ ap (map segment_of) (sym (now ∙ grew)))
+          ap₂ (λ (l : List Segment) (o : Option Segment). l ++ option_to_list o) (older ∙ both.0)
+          (growing ∙ (ap (grown_by new.next (length more)) is ∙ segment_is))
+          ∙ (sym (map-append segment_of front (grown more last ∷ []))
+          ∙ ap (map segment_of) (sym (now ∙ grew)))
 
       shut : (o : Option Segment) → old.growing ≡ o → IsSome o → new.growing ≡ None → ⊥
       shut None is there none = cc
-      shut (Some segment) is there none = let some = growing ∙ ap (grown_by new.next (length more)) is in cc (some, none)
+      shut (Some segment) is there none =
+          let some = growing ∙ ap (grown_by new.next (length more)) is in cc (some, none)

@@ -1,9 +1,7 @@
 -- The bytes of a file of a spool: records, one after the other. (profile)
-use Rattle.std.specs.Prelude.{◌≡◌, ℕ, zero, suc, ◌+◌, ◌^◌, ◌<◌, ◌≤◌, ◌==◌, nat_lt, nat_le, Bool}
+use Rattle.std.specs.Prelude.{ℕ, zero, suc, ◌+◌, ◌^◌, ◌<◌, ◌==◌, nat_lt, nat_le, Bool}
 use Rattle.std.specs.Prelude.{◌&&◌, List, [], ◌∷◌, ◌++◌, length, take, drop, flat_map, filter_map}
 use Rattle.std.specs.Prelude.{Option, Some, None, if◌then◌else◌}
-use Rattle.std.specs.Option.{option_map_or}
-use Rattle.std.specs.List.{AllByRecursion}
 use Rattle.std.specs.Int.{w32, w64, to_le_bytes, from_le_bytes}
 use Rattle.model_deflate.specs.Crc.{crc32}
 
@@ -41,7 +39,8 @@ unfoldable pub after_at : List ℕ → List ℕ
 unfolding length_at
 after_at bytes = drop (8 + length_at bytes) bytes
 
--- Whether bytes begin with a record: with as many bytes as its length says, at least one, whose check
+-- Whether bytes begin with a record: with as many bytes as its length says, at least one, whose
+-- check
 -- is the one that is there.
 unfoldable pub is_record_at : List ℕ → Bool
 unfolding length_at content_at
@@ -62,7 +61,8 @@ unfoldable pub rest_by : ℕ → List ℕ → List ℕ
 rest_by zero bytes = bytes
 rest_by (suc n) bytes = if is_record_at bytes then rest_by n (after_at bytes) else bytes
 
--- The contents of the records that bytes begin with, up to where they go on with no record. No record
+-- The contents of the records that bytes begin with, up to where they go on with no record. No
+-- record
 -- is shorter than a byte, so there are no more than the bytes are.
 unfoldable pub contents : List ℕ → List (List ℕ)
 unfolding contents_by

@@ -1,10 +1,11 @@
 -- What a spool knows of its files between two calls. (profile)
-use Rattle.std.specs.Prelude.{◌≡◌, ℕ, ◌+◌, ◌*◌, ◌-◌, ◌<◌, ◌≤◌, List, [], ◌∷◌, ◌++◌, length, map}
+use Rattle.std.specs.Prelude.{◌≡◌, ℕ, ◌+◌, ◌-◌, ◌<◌, ◌≤◌, List, [], ◌∷◌, ◌++◌, length, map}
 use Rattle.std.specs.Prelude.{Option, Some, None, IsSome, min, ◌^◌}
 use Rattle.std.specs.Option.{option_to_list}
 use Rattle.spool_device.specs.Disks.{SpoolFile, Disk, grown, grow_last, disk_size}
 use Rattle.spool_device.specs.Crashes.{Only}
-use Rattle.spool.specs.Spools.{end_of, done_to, next_number, waiting, waiting_from, CanGrow, reserved, notes_in}
+use Rattle.spool.specs.Spools.{end_of, done_to, next_number, waiting, waiting_from, CanGrow}
+use Rattle.spool.specs.Spools.{notes_in}
 use Rattle.spool.specs.Spools.{greatest}
 use Rattle.spool.specs.declared.state.Segment.{Segment}
 use Rattle.spool.specs.declared.state.Spool.{Spool}
@@ -32,7 +33,8 @@ grown_by after len (Some segment) = Some (record segment {
 -- The files of a spool are as it knows them, and all of that is on the disk.
 pub record IsSettled {D : Type 0} (files : D → Disk) (moment : D → ℕ)
     (left_at : D → ℕ → Disk → Type 0) (spool : Spool D) : Type 0 where
-  pub segments : spool.older.items ++ option_to_list spool.growing ≡ map segment_of (files spool.device)
+  pub segments : spool.older.items ++ option_to_list spool.growing
+      ≡ map segment_of (files spool.device)
   pub done : spool.done ≡ done_to (files spool.device)
   pub next : spool.next ≡ next_number (files spool.device)
   pub size : spool.size ≡ disk_size (files spool.device)

@@ -1,10 +1,11 @@
 -- What the files of a spool mean. (profile)
-use Rattle.std.specs.Prelude.{◌≡◌, ◌⊎◌, ℕ, ◌+◌, ◌-◌, ◌*◌, ◌<◌, ◌≤◌, ◌==◌, max, Bool, List, [], ◌∷◌, ◌++◌}
+use Rattle.std.specs.Prelude.{◌≡◌, ◌⊎◌, ℕ, ◌+◌, ◌-◌, ◌*◌, ◌<◌, ◌≤◌, ◌==◌, max, Bool, List, [], ◌∷◌}
+use Rattle.std.specs.Prelude.{◌++◌}
 use Rattle.std.specs.Prelude.{length, map, take, drop, flat_map, filter, sum_by, nat_le, true}
-use Rattle.std.specs.Prelude.{if◌then◌else◌}
+use Rattle.std.specs.Prelude.{if◌then◌else◌, Any, ◌^◌}
 use Rattle.std.specs.List.{enumerate_from}
 use Rattle.spool_device.specs.Disks.{SpoolFile, Disk, disk_size}
-use Rattle.spool.specs.Records.{contents, rest, bodies, notes, note_size}
+use Rattle.spool.specs.Records.{contents, rest, bodies, notes, note_size, spelled, body_content}
 
 -- ---- one file
 
@@ -76,10 +77,26 @@ pub record CanGrow (disk : Disk) : Type 0 where
   pub whole : is_whole last ≡ true
   pub end : end_of last ≡ next_number disk
 
+-- ---- room
+
+-- One of the bodies is too long for a record.
+abbrev pub IsOneTooLong : List (List ℕ) → Type 0
+IsOneTooLong bodies = Any (λ body. 2 ^ 32 ≤ length body + 1) bodies
+
+-- Bodies have no room: with them, and notes of their deliveries, the files would pass the limit; or
+-- there are too many numbers; or one is too long.
+abbrev pub HasNoRoom : Disk → List (List ℕ) → ℕ → Type 0
+HasNoRoom disk bodies limit =
+    (limit < disk_size disk + length (spelled (map body_content bodies))
+    + note_size * (next_number disk + length bodies - done_to disk))
+    ⊎ ((2 ^ 63 ≤ next_number disk + length bodies) ⊎ IsOneTooLong bodies)
+
 -- ---- crashes
 
--- What a crash during a put leaves: what waited, and some of the bodies, the first ones, none, some or
--- all, each of them whole, with the numbers that they are given. The files stay within the limit, if
+-- What a crash during a put leaves: what waited, and some of the bodies, the first ones, none, some
+-- or
+-- all, each of them whole, with the numbers that they are given. The files stay within the limit,
+-- if
 -- they were.
 pub record LeftByPut (disk : Disk) (bodies : List (List ℕ)) (limit : ℕ) (left : Disk) : Type 0 where
   pub count : ℕ

@@ -4,6 +4,7 @@ ghost use Rattle.std.specs.Prelude.{IfOk, OnOk, IsErrOf};
 ghost use Rattle.std.specs.List.{enumerate_from};
 ghost use Rattle.spool_device.specs.Crashes.{LeavesOnly};
 ghost use Rattle.spool.specs.Spools.{waiting, next_number, reserved, numbered_from, LeftByPut, LeftByNote};
+ghost use Rattle.spool.specs.Spools.{HasNoRoom};
 ghost use Rattle.spool.specs.Settled.{IsSettled, device_of, limit_of};
 
 use crate::records::{bodies_record, note_record};
@@ -21,8 +22,8 @@ impl<D: Device> Spool<D> {
     /// # Errors
     ///
     /// `Full`: with these bodies, and notes of their deliveries, the files would pass the limit; or a
-    /// body has 2^32 - 1 bytes or more, or there have been 2^63 bodies. `Memory`, `Failed`. After
-    /// `Failed` or `Memory` open the spool again: it has some of the bodies, or none.
+    /// body has 2^32 - 1 bytes or more, or there have been 2^63 bodies. Nothing has changed then.
+    /// `Memory`, `Failed`: open the spool again, which has some of the bodies or none.
     pub fn put(&mut self, alloc: Global, bodies: &[Vec<u8>]) -> Result<u64, SpoolError>
         requires { D.is_known → IsSettled D.files D.moment D.left_at self.old }
         ensures settled { OnOk result (D.is_known → IsSettled D.files D.moment D.left_at self.new) }
@@ -31,6 +32,9 @@ impl<D: Device> Spool<D> {
         ensures bound { OnOk result (D.is_known
             → reserved (D.files (device_of self.new)) ≤ limit_of self.new) }
         ensures limit { limit_of self.new ≡ limit_of self.old }
+        ensures refused { IsErrOf result SpoolError.Full → self.new ≡ self.old }
+        ensures full { IsErrOf result SpoolError.Full → D.is_known
+            → HasNoRoom (D.files (device_of self.old)) (map (λ body. body.items) bodies.now) (limit_of self.old) }
         ensures crash { D.is_known
             → LeavesOnly D.moment D.left_at (device_of self.old) (device_of self.new)
             (LeftByPut (D.files (device_of self.old)) (map (λ body. body.items) bodies.now) (limit_of self.old)) }
@@ -50,5 +54,40 @@ impl<D: Device> Spool<D> {
         let first = self.next;
         self.write(&bytes, next, self.done, size)?;
         Ok(first)
+    }
+
+    /// Notes that all bodies with a lower number were delivered, and syncs once. From then on no crash
+    /// brings them back: they are not given again. A crash before may, so a body can be delivered
+    /// twice. Files whose bodies are all delivered are removed.
+    ///
+    /// # Errors
+    ///
+    /// `Memory`, `Failed`; `Full` only if the files have 2^64 bytes, or there have been 2^63 bodies.
+    /// After an error open the spool again.
+    pub fn note_delivered(&mut self, alloc: Global, number: u64) -> Result<(), SpoolError>
+        requires { D.is_known → IsSettled D.files D.moment D.left_at self.old }
+        ensures settled { OnOk result (D.is_known → IsSettled D.files D.moment D.left_at self.new) }
+        ensures waiting { OnOk result (D.is_known → waiting (D.files (device_of self.new))
+            ≡ numbered_from number (waiting (D.files (device_of self.old)))) }
+        ensures bound { OnOk result (D.is_known
+            → reserved (D.files (device_of self.new)) ≤ reserved (D.files (device_of self.old))) }
+        ensures limit { limit_of self.new ≡ limit_of self.old }
+        ensures crash { D.is_known
+            → LeavesOnly D.moment D.left_at (device_of self.old) (device_of self.new)
+            (LeftByNote (D.files (device_of self.old)) number) }
+    {
+        let noted = number.min(self.next);
+        if noted <= self.done {
+            return Ok(());
+        }
+        let bytes = note_record(alloc, &self.table, noted)?;
+        let Some(size) = self.size.checked_add(bytes.len() as u64) else {
+            return Err(SpoolError::Full);
+        };
+        self.make_open(bytes.len() as u64)?;
+        let next = self.next;
+        self.write(&bytes, next, noted, size)?;
+        self.remove_done()?;
+        Ok(())
     }
 }

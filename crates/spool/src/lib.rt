@@ -5,10 +5,15 @@
 
 mod calls;
 mod error;
-
+mod giving;
+mod opening;
 mod records;
+mod removing;
 mod state;
 mod synced;
+pub mod worked;
 
 pub use error::SpoolError;
+pub use giving::WaitingBodies;
+pub use opening::Opened;
 pub use state::Spool;

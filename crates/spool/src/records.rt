@@ -7,7 +7,7 @@ ghost use Rattle.std.specs.Int.{w32, from_le_bytes};
 ghost use Rattle.spool.specs.Records.{record_bytes, IsContent, spelled, length_at, content_at, after_at};
 ghost use Rattle.spool.specs.Records.{is_record_at, contents, rest, body_content, note_content, body_of};
 ghost use Rattle.spool.specs.Records.{note_of, bodies, notes};
-ghost use Rattle.spool.specs.Spools.{greatest};
+ghost use Rattle.spool.specs.Spools.{greatest, IsOneTooLong};
 
 use crate::SpoolError;
 use gzip_read::CrcTable;
@@ -31,7 +31,11 @@ fn head(bytes: &[u8]) -> Option<(u32, u32, &[u8])>
     let Some((check, after)) = after.split_first_chunk::<4>() else {
         return None;
     };
-    Some((u32::from_le_bytes(*length), u32::from_le_bytes(*check), after))
+    Some((
+        u32::from_le_bytes(*length),
+        u32::from_le_bytes(*check),
+        after,
+    ))
 }
 
 /// The content of the record that bytes begin with, and the bytes after it.
@@ -82,7 +86,9 @@ fn noted(content: &[u8]) -> u64
     u64::from_le_bytes(*number)
 }
 
-/// What the records of a file are.
+/// What the records of a file are: how many bodies they keep, the greatest number that they note, and
+/// how many bytes are not read.
+#[derive(Clone, Copy, Debug)]
 pub(crate) struct FileRecords {
     pub(crate) bodies: u64,
     pub(crate) done: u64,
@@ -200,6 +206,7 @@ pub(crate) fn bodies_record(
     ensures written { IfOk result (λ v. v.items
         ≡ spelled (map body_content (map (λ body. body.items) bodies.now))) }
     ensures fits { OnOk result (AllByRecursion IsContent (map body_content (map (λ body. body.items) bodies.now))) }
+    ensures full { IsErrOf result SpoolError.Full → IsOneTooLong (map (λ body. body.items) bodies.now) }
 {
     let mut out = Vec::new(alloc);
     for body in bodies {

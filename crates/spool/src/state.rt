@@ -92,7 +92,7 @@ pub(crate) fn room_for(
     ensures { MatchOption result
         ((limit < size + bytes + 17 * (next + count - done)) ⊎ (2 ^ 63 ≤ next + count))
         (λ x. (x.0 ≡ size + bytes) × (x.1 ≡ next + count)
-            × (size + bytes + 17 * (next + count - done) ≤ limit)) }
+        × (size + bytes + 17 * (next + count - done) ≤ limit) × (next + count < 2 ^ 63)) }
 {
     let after = u128::from(next) + u128::from(count);
     let larger = u128::from(size) + u128::from(bytes);
@@ -144,6 +144,9 @@ impl<D: Device> Spool<D> {
         requires is_open { IsSome self.old.growing }
         requires grows { D.is_known → Grows (D.files self.old.device) bytes.now next done size }
         ensures settled { OnOk result (D.is_known → IsSettled D.files D.moment D.left_at self.new) }
+        ensures is_open { OnOk result (IsSome self.new.growing) }
+        ensures next { OnOk result (self.new.next ≡ next) }
+        ensures done { OnOk result (self.new.done ≡ done) }
         ensures written { OnOk result (D.is_known
             → D.files self.new.device ≡ grow_last bytes.now (D.files self.old.device)) }
         ensures limit { self.new.limit ≡ self.old.limit }

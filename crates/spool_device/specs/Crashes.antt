@@ -1,6 +1,6 @@
 -- What a crash may leave of the files of a spool. (profile)
 use Rattle.std.specs.Prelude.{◌≡◌, ◌⊎◌, ℕ, ◌≤◌, List, [], ◌∷◌, ◌++◌, take, drop}
-use Rattle.spool_device.specs.Disks.{SpoolFile, Disk, new_file, grow_last}
+use Rattle.spool_device.specs.Disks.{Disk, new_file, grow_last}
 
 -- ---- what is left of one call
 
@@ -8,7 +8,8 @@ use Rattle.spool_device.specs.Disks.{SpoolFile, Disk, new_file, grow_last}
 abbrev pub Created : ℕ → Disk → Disk → Type 0
 Created number old left = (left ≡ old) ⊎ (left ≡ old ++ new_file number ∷ [])
 
--- some of the bytes, the first ones, were added to the newest file: none, all, or as many as came to
+-- some of the bytes, the first ones, were added to the newest file: none, all, or as many as came
+-- to
 -- the disk
 abbrev pub Appended : List ℕ → Disk → Disk → Type 0
 Appended bytes old left = (n : ℕ) × (left ≡ grow_last (take n bytes) old)

@@ -1,5 +1,5 @@
 -- The files of a spool. (profile)
-use Rattle.std.specs.Prelude.{ℕ, List, [], ◌∷◌, ◌++◌, length, map, drop, sum_by}
+use Rattle.std.specs.Prelude.{ℕ, List, [], ◌∷◌, ◌++◌, length, map, sum_by}
 
 -- A file: its number, which is its name, and its bytes.
 pub record SpoolFile : Type 0 where

@@ -4,8 +4,8 @@
 
 mod device;
 mod error;
-
+mod memory;
 
 pub use device::Device;
 pub use error::DeviceError;
-
+pub use memory::{MemoryDevice, MemoryFile};

@@ -1,4 +1,5 @@
-use Rattle.std.proofs.Common.{◌≡◌, ℕ, zero, suc, refl, List, [], ap, sym, ◌∙◌, ◌++◌, length, map, drop, arith}
+use Rattle.std.proofs.Common.{◌≡◌, ℕ, zero, suc, refl, List, [], ap, sym, ◌∙◌, ◌++◌, map}
+use Rattle.std.proofs.Common.{drop, arith}
 use Rattle.std.proofs.lemmas.List.{append-nil}
 use Rattle.spool.specs.Records.{contents, bodies}
 use Rattle.spool.proofs.RecordLaws.{read-none}
@@ -16,7 +17,9 @@ loop-content-preserved c =
     let h = c.in-Some.ensures in
     let a = adds c.loop-content.left.now c.in-Some.content.now c.in-Some.after.now h.0 h.1 h.2 in
     c.in_ok-skip.ensures (contents c.in-Some.after.now)
-    ∙ (ap (λ (l : List (List ℕ)). map (λ body. body.items) c.loop-content.found.items ++ drop c.loop-content.skip (bodies l)) (sym a.whole)
+    ∙ (ap (λ (l : List (List ℕ)).
+    map (λ body. body.items) c.loop-content.found.items ++ drop c.loop-content.skip (bodies l))
+    (sym a.whole)
     ∙ c.loop-content.invariant)
 
 pub returns : goal.returns

@@ -1,5 +1,5 @@
-use Rattle.std.proofs.Common.{◌≡◌, ℕ, List, ap, sym, ◌∙◌, length, max, arith}
-use Rattle.spool.specs.Records.{contents, rest, bodies, notes}
+use Rattle.std.proofs.Common.{ℕ, List, ap, sym, ◌∙◌, length, arith}
+use Rattle.spool.specs.Records.{bodies, notes}
 use Rattle.spool.specs.Spools.{greatest}
 use Rattle.spool.proofs.RecordLaws.{read-none}
 use Rattle.spool.proofs.ScanLaws.{adds}

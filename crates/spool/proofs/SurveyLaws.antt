@@ -1,0 +1,263 @@
+-- What is found in one more file, and the spool that is made of what was found.
+use Rattle.std.proofs.Common.{◌≡◌, inl, inr, refl, sym, ap, ap₂, ◌∙◌, subst, ℕ, zero, suc}
+use Rattle.std.proofs.Common.{◌+◌, ◌-◌, ◌<◌, max}
+use Rattle.std.proofs.Common.{List, [], ◌∷◌, ◌++◌, length, map, drop, arith}
+use Rattle.std.proofs.Common.{cond, get_or}
+use Rattle.std.specs.Prelude.{Option, Some, None, IsSome, ◌==◌, slice_get}
+use Rattle.std.specs.Option.{option_to_list}
+use Rattle.std.proofs.lemmas.Bool.{cases_lt}
+use Rattle.std.proofs.lemmas.List.{append-nil, map-append, same_from_push}
+use Rattle.std.proofs.lemmas.List.Sums.{sum_by-append}
+use Rattle.spool_device.specs.Disks.{SpoolFile, Disk, disk_size}
+use Rattle.spool_device.specs.Crashes.{Only}
+use Rattle.spool.specs.Records.{contents, rest, bodies, notes}
+use Rattle.spool.specs.Spools.{bodies_in, notes_in, is_whole, end_of, greatest, done_to}
+use Rattle.spool.specs.Spools.{next_number}
+use Rattle.std.specs.List.{enumerate_from}
+use Rattle.spool.specs.Spools.{damaged_bytes, waiting_in}
+use Rattle.spool.specs.Settled.{segment_of, IsSettled}
+use Rattle.spool.specs.Surveys.{IsSurvey, IsSplit}
+use Rattle.spool.specs.declared.state.Segment.{Segment}
+use Rattle.spool.specs.declared.state.Spool.{Spool}
+use Rattle.spool.specs.declared.opening.Survey.{Survey}
+use Rattle.spool.proofs.DiskLaws.{greatest-append, done-last, size-last}
+use Rattle.spool.proofs.PutLaws.{number-below}
+
+-- Of no files.
+pub survey-none : (survey : Survey) → survey.segments.items ≡ [] → survey.done ≡ 0
+    → survey.last_end ≡ 0 → survey.size ≡ 0 → survey.damaged ≡ 0 → IsSurvey [] survey
+unfolding done_to damaged_bytes
+survey-none survey segments done ends size damaged = record {
+  segments = segments;
+  done = done;
+  ends = ends;
+  size = size;
+  damaged = damaged;
+  whole = λ front last is. absurd (none front last is);
+}
+  where
+    none : (front : Disk) (last : SpoolFile) → [] ≡ front ++ last ∷ [] → ⊥
+    none [] last is = cc
+    none (f ∷ front) last is = cc
+
+-- Where a file ends, as it is found.
+pub end-found : (file : SpoolFile) (n b t r : ℕ) → file.number ≡ n
+    → b ≡ length (bodies (contents file.bytes)) → r ≡ length (rest file.bytes)
+    → t ≡ cond (r == 0) 0 1 → end_of file ≡ n + b + t
+unfolding end_of bodies_in is_whole
+end-found file n b t r number count left torn =
+    let same : cond (r == 0) 0 1 ≡ cond (length (rest file.bytes) == 0) 0 1 =
+    ap (λ (k : ℕ). let c : ℕ = cond (k == 0) 0 1 in c) left in
+    omega (arith, number, count, torn, same)
+
+-- With one more file.
+pub survey-more : (disk : Disk) (file : SpoolFile) (old new : Survey) (n b t r d : ℕ)
+    → IsSurvey disk old → file.number ≡ n
+    → b ≡ length (bodies (contents file.bytes)) → d ≡ greatest (notes (contents file.bytes))
+    → r ≡ length (rest file.bytes) → t ≡ cond (r == 0) 0 1
+    → new.segments.items
+    ≡ old.segments.items ++ record { number = n; «end» = n + b + t; len = length file.bytes } ∷ []
+    → new.done ≡ max old.done d → new.last_end ≡ max old.last_end (n + b + t)
+    → new.size ≡ old.size + length file.bytes → new.damaged ≡ old.damaged + r
+    → new.is_whole ≡ (r == 0) → IsSurvey (disk ++ file ∷ []) new
+unfolding done_to damaged_bytes notes_in is_whole
+survey-more disk file old new n b t r d was number count noted left torn segments done ends size
+    damaged whole =
+    let end_is : end_of file ≡ n + b + t = end-found file n b t r number count left torn in
+    record {
+      segments =
+          segments ∙ (ap₂ (λ (l : List Segment) (s : Segment). l ++ s ∷ []) was.segments
+          (λ i. record { number = sym number i; «end» = sym end_is i; len = length file.bytes })
+          ∙ sym (map-append segment_of disk (file ∷ [])));
+      done = done ∙ (omega (arith, was.done, noted, done-last disk file));
+      ends =
+          omega (
+            arith,
+            ends,
+            was.ends,
+            end_is,
+            ap greatest (map-append end_of disk (file ∷ [])),
+            greatest-append (map end_of disk) (end_of file ∷ []),
+          );
+      size = omega (arith, size, was.size, size-last disk file);
+      damaged =
+          omega (
+            arith,
+            damaged,
+            was.damaged,
+            left,
+            sum_by-append (λ (f : SpoolFile). length (rest f.bytes)) disk (file ∷ []),
+          );
+      whole = λ front last is.
+          let same : file ≡ last = (same_from_push disk front file last is).1 in
+          whole
+          ∙ (ap (λ (k : ℕ). k == 0) left ∙ ap (λ (f : SpoolFile). length (rest f.bytes) == 0) same);
+    }
+
+-- ---- the loop over the files
+
+-- One file of several.
+pub file-at : (disk : Disk) (i : ℕ) (d : SpoolFile) → i < length disk
+    → slice_get disk i ≡ Some (get_or disk i d)
+file-at [] i d lt = absurd (omega arith)
+file-at (f ∷ disk) zero d lt = refl
+file-at (f ∷ disk) (suc i) d lt = file-at disk i d (omega (arith, lt))
+
+-- ---- the spool
+
+-- A last file, where there is a last segment.
+pub record LastFile (disk : Disk) (segment : Segment) : Type 0 where
+  pub front : Disk
+  pub last : SpoolFile
+  pub split : disk ≡ front ++ last ∷ []
+  pub is : segment ≡ segment_of last
+
+-- The last file, by the last segment.
+pub last-file : (disk : Disk) (older : List Segment) (segment : Segment)
+    → map segment_of disk ≡ older ++ segment ∷ [] → LastFile disk segment
+last-file [] [] segment is = absurd (cc)
+last-file [] (s ∷ older) segment is = absurd (cc)
+last-file (f ∷ []) [] segment is = record { front = []; last = f; split = refl; is = cc }
+last-file (f ∷ []) (s ∷ older) segment is =
+    let none : [] ≡ older ++ segment ∷ [] = cc in absurd (nothing older segment none)
+  where
+    nothing : (xs : List Segment) (s : Segment) → [] ≡ xs ++ s ∷ [] → ⊥
+    nothing [] s e = cc
+    nothing (x ∷ xs) s e = cc
+last-file (f ∷ g ∷ disk) [] segment is = absurd (cc)
+last-file (f ∷ g ∷ disk) (s ∷ older) segment is =
+    let rest : map segment_of (g ∷ disk) ≡ older ++ segment ∷ [] = cc in
+    let more = last-file (g ∷ disk) older segment rest in
+    record {
+      front = f ∷ more.front;
+      last = more.last;
+      split = ap (λ (d : Disk). f ∷ d) more.split;
+      is = more.is;
+    }
+
+-- The spool that is made of what was found.
+pub settled-found : {D : Type 0} (files : D → Disk) (moment : D → ℕ)
+    (left_at : D → ℕ → Disk → Type 0) (spool : Spool D) (survey : Survey) (disk : Disk)
+    → IsSurvey disk survey → files spool.device ≡ disk
+    → Only (files spool.device) (left_at spool.device (moment spool.device))
+    → IsSplit survey.segments.items spool.older.items survey.is_whole spool.next spool.growing
+    → spool.done ≡ survey.done → spool.next ≡ max survey.done survey.last_end
+    → spool.size ≡ survey.size
+    → IsSettled files moment left_at spool
+unfolding next_number
+settled-found files moment left_at spool survey disk found same only split done next size =
+    go spool.growing refl split
+  where
+    next_is : spool.next ≡ next_number (files spool.device)
+    next_is =
+        omega (
+          arith,
+          next,
+          found.done,
+          found.ends,
+          ap done_to same,
+          ap (λ (d : Disk). greatest (map end_of d)) same,
+        )
+
+    done_is : spool.done ≡ done_to (files spool.device)
+    done_is = done ∙ (found.done ∙ ap done_to (sym same))
+
+    size_is : spool.size ≡ disk_size (files spool.device)
+    size_is = size ∙ (found.size ∙ ap disk_size (sym same))
+
+    nothing : IsSome {T = Segment} None → ⊥
+    nothing some = cc
+
+    go : (o : Option Segment) → spool.growing ≡ o
+        → IsSplit survey.segments.items spool.older.items survey.is_whole spool.next o
+        → IsSettled files moment left_at spool
+    go (Some segment) is parts =
+        let all : map segment_of (files spool.device) ≡ spool.older.items ++ segment ∷ [] =
+        ap (map segment_of) same ∙ (sym found.segments ∙ parts.0) in
+        let lf = last-file (files spool.device) spool.older.items segment all in
+        record {
+          segments =
+              ap (λ (o : Option Segment). spool.older.items ++ option_to_list o) is ∙ sym all;
+          done = done_is;
+          next = next_is;
+          size = size_is;
+          grows = λ _. record {
+            front = lf.front;
+            last = lf.last;
+            split = lf.split;
+            whole = sym (found.whole lf.front lf.last (sym same ∙ lf.split)) ∙ parts.1;
+            end = ap (λ (s : Segment). s.«end») (sym lf.is) ∙ (parts.2 ∙ next_is);
+          };
+          shut = λ none. absurd (cc (is, none));
+          durable = only;
+        }
+    go None is parts =
+        record {
+          segments =
+              ap (λ (o : Option Segment). spool.older.items ++ option_to_list o) is
+              ∙ (append-nil spool.older.items
+              ∙ (parts.0 ∙ (found.segments ∙ ap (map segment_of) (sym same))));
+          done = done_is;
+          next = next_is;
+          size = size_is;
+          grows = λ some. absurd (nothing (subst IsSome is some));
+          shut = λ _ front last at.
+              let all : survey.segments.items ≡ map segment_of front ++ segment_of last ∷ [] =
+              found.segments
+              ∙ (ap (map segment_of) (sym same ∙ at) ∙ map-append segment_of front (last ∷ [])) in
+              let whole : survey.is_whole ≡ is_whole last =
+              found.whole front last (sym same ∙ at) in
+              let next_at : spool.next ≡ next_number (front ++ last ∷ []) =
+              next_is ∙ ap next_number at in
+              let below : last.number < next_number (front ++ last ∷ []) =
+              elim (parts.1 (map segment_of front) (segment_of last) all) [
+                | inl torn ↦ number-below front last (inl (sym whole ∙ torn))
+                | inr other ↦ number-below front last (inr (λ e. other (e ∙ sym next_at)))
+              ] in
+              subst (λ (d : Disk). last.number < next_number d) (sym at) below;
+          durable = only;
+        }
+
+-- What is kept of one file of several.
+pub segment-at : (disk : Disk) (i : ℕ) (file : SpoolFile) → slice_get disk i ≡ Some file
+    → slice_get (map segment_of disk) i ≡ Some (segment_of file)
+segment-at [] i file is = absurd (cc)
+segment-at (f ∷ disk) zero file is =
+    let same : f ≡ file = cc in ap (λ (x : SpoolFile). Some (segment_of x)) same
+segment-at (f ∷ disk) (suc i) file is = segment-at disk i file is
+
+drop-nil : {X : Type 0} (n : ℕ) → ◌≡◌ {A = List X} (drop n []) []
+drop-nil zero = refl
+drop-nil (suc n) = refl
+
+-- Numbered bodies without those before a number, by the bodies.
+pub drop-enumerate : (d k : ℕ) (bs : List (List ℕ))
+    → drop (d - k) (enumerate_from k bs) ≡ enumerate_from (max k d) (drop (d - k) bs)
+drop-enumerate d k [] =
+    ap (λ (l : List (ℕ × List ℕ)). l) (drop-nil (d - k))
+    ∙ ap (enumerate_from (max k d)) (sym (drop-nil (d - k)))
+drop-enumerate d k (b ∷ bs) = elim (cases_lt k d) [
+  | inl lt ↦
+      let e : d - k ≡ suc (d - (k + 1)) = omega arith in
+      let m : max (k + 1) d ≡ max k d = omega arith in
+      ap (λ (n : ℕ). drop n ((k, b) ∷ enumerate_from (k + 1) bs)) e
+      ∙ (drop-enumerate d (k + 1) bs
+      ∙ (ap (λ (n : ℕ). enumerate_from n (drop (d - (k + 1)) bs)) m
+      ∙ ap (λ (n : ℕ). enumerate_from (max k d) (drop n (b ∷ bs))) (sym e)))
+  | inr ge ↦
+      let e : d - k ≡ 0 = omega arith in
+      let m : max k d ≡ k = omega arith in
+      ap (λ (n : ℕ). drop n ((k, b) ∷ enumerate_from (k + 1) bs)) e
+      ∙ ap₂ (λ (n : ℕ) (j : ℕ). enumerate_from n (drop j (b ∷ bs))) (sym m) (sym e)
+]
+
+-- The bodies of a file that wait, by its records.
+pub bodies-waiting : (done first skip : ℕ) (file : SpoolFile) (found : List (List ℕ))
+    → skip ≡ done - file.number → first ≡ max file.number done
+    → found ≡ drop skip (bodies (contents file.bytes))
+    → enumerate_from first found ≡ waiting_in done file
+unfolding waiting_in bodies_in
+bodies-waiting done first skip file found skipped first_is are =
+    ap₂ (λ (n : ℕ) (l : List (List ℕ)). enumerate_from n l) first_is
+    (are ∙ ap (λ (n : ℕ). drop n (bodies (contents file.bytes))) skipped)
+    ∙ sym (drop-enumerate done file.number (bodies (contents file.bytes)))

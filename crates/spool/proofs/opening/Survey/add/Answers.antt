@@ -1,0 +1,29 @@
+use Rattle.std.proofs.Common.{refl, sym, ap, ◌∙◌, List, ℕ, length, ◌≡◌, ◌+◌, ◌++◌, [], ◌∷◌}
+use Rattle.spool.specs.Records.{contents, rest, bodies, notes}
+use Rattle.spool.specs.Spools.{greatest}
+use Rattle.spool.proofs.SurveyLaws.{survey-more}
+use Rattle.spool.proofs.opening.Survey.add.Goals as goal
+
+pub returns : goal.returns
+returns c = λ disk file was number bytes.
+    let r = c.scan-records.result in
+    let e = c.scan-records.ensures in
+    let len : length c.args.bytes.now ≡ length file.bytes = ap length (sym bytes) in
+    survey-more disk file c.args.self.now _ c.args.number r.bodies c.torn_count.result r.rest r.done
+    was number
+    (e.bodies ∙ ap (λ (l : List ℕ). length (bodies (contents l))) (sym bytes))
+    (e.done ∙ ap (λ (l : List ℕ). greatest (notes (contents l))) (sym bytes))
+    (e.rest ∙ ap (λ (l : List ℕ). length (rest l)) (sym bytes))
+    c.torn_count.ensures
+    (c.in_ok-push.ensures.items
+    ∙ ap (λ (n : ℕ). c.args.self.now.segments.items
+    ++ record {
+      number = c.args.number;
+      «end» = c.args.number + r.bodies + c.torn_count.result;
+      len = n;
+    }
+    ∷ [])
+    len)
+    c.max-self.ensures c.max-self-2.ensures
+    (c.in-Some.ensures.1 ∙ ap (λ (n : ℕ). c.args.self.now.size + n) len)
+    (c.in-Some-checked_add.ensures.1) refl

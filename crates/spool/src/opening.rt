@@ -1,0 +1,185 @@
+//! Opening a spool: what its files are.
+ghost use Rattle.std.specs.Prelude.{◌≡◌, ℕ, ◌+◌, ◌*◌, ◌^◌, ◌<◌, ◌≤◌, List, [], ◌∷◌, ◌++◌, length, IfOk, IfErr, OnOk};
+ghost use Rattle.std.specs.Prelude.{if◌then◌else◌, ◌==◌};
+ghost use Rattle.spool_device.specs.Disks.{SpoolFile, Disk};
+ghost use Rattle.spool_device.specs.Crashes.{LeavesOnly, Only};
+ghost use Rattle.spool.specs.Spools.{damaged_bytes};
+ghost use Rattle.spool.specs.Settled.{IsSettled, device_of, limit_of};
+ghost use Rattle.spool.specs.Surveys.{IsSurvey, IsSplit};
+
+use crate::records::scan;
+use crate::state::Segment;
+use crate::{Spool, SpoolError};
+use gzip_read::CrcTable;
+use spool_device::Device;
+use std::alloc::Global;
+
+/// A spool that was opened.
+#[derive(Drop)]
+pub struct Opened<D: Device> {
+    /// The spool.
+    pub spool: Spool<D>,
+    /// How many bytes of its files are not read: those of records that are cut short or damaged, and
+    /// what is after them in their file. No body is given of them.
+    pub damaged_bytes: u64,
+}
+
+/// What is found in files.
+#[derive(Drop)]
+pub(crate) struct Survey {
+    pub(crate) segments: Vec<Segment>,
+    pub(crate) done: u64,
+    pub(crate) last_end: u64,
+    pub(crate) size: u64,
+    pub(crate) damaged: u64,
+    pub(crate) is_whole: bool,
+}
+
+/// The number that bytes which are not read take.
+fn torn_count(rest: usize) -> u64
+    ensures { result ≡ (if rest == 0 then 0 else 1) }
+{
+    if rest == 0 { 0 } else { 1 }
+}
+
+impl Survey {
+    /// Of no files.
+    fn new(alloc: Global) -> Survey
+        ensures { IsSurvey [] result }
+    {
+        Survey {
+            segments: Vec::new(alloc),
+            done: 0,
+            last_end: 0,
+            size: 0,
+            damaged: 0,
+            is_whole: false,
+        }
+    }
+
+    /// Adds the next file.
+    fn add(&mut self, table: &CrcTable<Global>, number: u64, bytes: &[u8]) -> Result<(), SpoolError>
+        requires { number < 2 ^ 63 }
+        ensures { OnOk result ((disk : Disk) (file : SpoolFile) → IsSurvey disk self.old
+            → file.number ≡ number → file.bytes ≡ bytes.now → IsSurvey (disk ++ file ∷ []) self.new) }
+    {
+        let records = scan(table, bytes);
+        let len = bytes.len() as u64;
+        let end = number + records.bodies + torn_count(records.rest);
+        let Some(size) = self.size.checked_add(len) else {
+            return Err(SpoolError::Full);
+        };
+        let Some(damaged) = self.damaged.checked_add(records.rest as u64) else {
+            return Err(SpoolError::Full);
+        };
+        self.segments.push(Segment { number, end, len })?;
+        self.done = self.done.max(records.done);
+        self.last_end = self.last_end.max(end);
+        self.size = size;
+        self.damaged = damaged;
+        self.is_whole = records.rest == 0;
+        Ok(())
+    }
+}
+
+/// Reads all files.
+fn survey_all<D: Device>(
+    alloc: Global,
+    device: &mut D,
+    table: &CrcTable<Global>,
+) -> Result<Survey, SpoolError>
+    ensures survey { IfOk result (λ survey. D.is_known → IsSurvey (D.files device.old) survey) }
+    ensures same { D.is_known → D.files device.new ≡ D.files device.old }
+    ensures crash { D.is_known → LeavesOnly D.moment D.left_at device.old device.new
+        (D.left_at device.old (D.moment device.old)) }
+{
+    let numbers = device.numbers(alloc)?;
+    let mut survey = Survey::new(alloc);
+    for (index, number) in numbers.iter().enumerate() {
+        let bytes = device.read(alloc, index)?;
+        survey.add(table, *number, &bytes)?;
+    }
+    Ok(survey)
+}
+
+/// The table of checks, and what is found in the files, all of which is on the disk then.
+fn survey_synced<D: Device>(
+    alloc: Global,
+    device: &mut D,
+) -> Result<(CrcTable<Global>, Survey), SpoolError>
+    ensures survey { IfOk result (λ x. D.is_known → IsSurvey (D.files device.old) x.1) }
+    ensures same { D.is_known → D.files device.new ≡ D.files device.old }
+    ensures synced { OnOk result (D.is_known
+        → Only (D.files device.new) (D.left_at device.new (D.moment device.new))) }
+    ensures crash { D.is_known → LeavesOnly D.moment D.left_at device.old device.new
+        (D.left_at device.old (D.moment device.old)) }
+{
+    let table = CrcTable::new(alloc)?;
+    let survey = survey_all(alloc, device, &table)?;
+    device.sync()?;
+    Ok((table, survey))
+}
+
+/// Takes the last segment out if it is whole and its bodies can go on with this number.
+fn split_last(segments: &mut Vec<Segment>, is_whole: bool, next: u64) -> Option<Segment>
+    ensures { IsSplit segments.old.items segments.new.items is_whole next result }
+{
+    let Some(last) = segments.last() else {
+        return None;
+    };
+    if !is_whole || last.end != next {
+        return None;
+    }
+    segments.pop()
+}
+
+impl<D: Device> Spool<D> {
+    /// Opens the files of a device as a spool. Their size may come up to `limit` bytes; a new file is
+    /// made once the newest one would pass `segment_limit` bytes. All files are read, one at a time,
+    /// and nothing of them is changed: what a crash leaves meanwhile, a crash before might have left.
+    ///
+    /// # Errors
+    ///
+    /// `Memory`, `Failed`; `Full` if the files have 2^64 bytes. The device is handed back.
+    pub fn open(
+        alloc: Global,
+        device: D,
+        limit: u64,
+        segment_limit: u64,
+    ) -> Result<Opened<D>, (SpoolError, D)>
+        ensures settled { IfOk result (λ opened. D.is_known → IsSettled D.files D.moment D.left_at opened.spool) }
+        ensures files { IfOk result (λ opened. D.is_known
+            → D.files (device_of opened.spool) ≡ D.files device) }
+        ensures damaged { IfOk result (λ opened. D.is_known
+            → opened.damaged_bytes ≡ damaged_bytes (D.files device)) }
+        ensures limit { IfOk result (λ opened. limit_of opened.spool ≡ limit) }
+        ensures crash { IfOk result (λ opened. D.is_known
+            → LeavesOnly D.moment D.left_at device (device_of opened.spool) (D.left_at device (D.moment device))) }
+        ensures crash_err { IfErr result (λ e. D.is_known
+            → LeavesOnly D.moment D.left_at device e.1 (D.left_at device (D.moment device))) }
+    {
+        let mut device = device;
+        let (table, survey) = match survey_synced(alloc, &mut device) {
+            Ok(found) => found,
+            Err(error) => return Err((error, device)),
+        };
+        let next = survey.done.max(survey.last_end);
+        let mut older = survey.segments;
+        let growing = split_last(&mut older, survey.is_whole, next);
+        let spool = Spool {
+            device,
+            table,
+            older,
+            growing,
+            done: survey.done,
+            next,
+            size: survey.size,
+            limit,
+            segment_limit,
+        };
+        Ok(Opened {
+            spool,
+            damaged_bytes: survey.damaged,
+        })
+    }
+}

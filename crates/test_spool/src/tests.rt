@@ -1,0 +1,7 @@
+//! The tests, and what they share.
+
+mod crashes;
+mod equal;
+mod files;
+mod folders;
+mod limits;
