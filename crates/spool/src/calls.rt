@@ -2,7 +2,9 @@
 ghost use Rattle.std.specs.Prelude.{◌≡◌, ◌⊎◌, ℕ, ◌+◌, ◌-◌, ◌*◌, ◌^◌, ◌<◌, ◌≤◌, List, [], ◌∷◌, ◌++◌, length, map};
 ghost use Rattle.std.specs.Prelude.{IfOk, OnOk, IsErrOf};
 ghost use Rattle.std.specs.List.{enumerate_from};
+ghost use Rattle.spool_device.specs.Disks.{disk_size};
 ghost use Rattle.spool_device.specs.Crashes.{LeavesOnly};
+ghost use Rattle.spool.specs.Records.{note_size};
 ghost use Rattle.spool.specs.Spools.{waiting, next_number, reserved, numbered_from, LeftByPut, LeftByNote};
 ghost use Rattle.spool.specs.Spools.{HasNoRoom};
 ghost use Rattle.spool.specs.Settled.{IsSettled, device_of, limit_of};
@@ -72,6 +74,9 @@ impl<D: Device> Spool<D> {
         ensures bound { OnOk result (D.is_known
             → reserved (D.files (device_of self.new)) ≤ reserved (D.files (device_of self.old))) }
         ensures limit { limit_of self.new ≡ limit_of self.old }
+        ensures full { IsErrOf result SpoolError.Full → D.is_known
+            → (2 ^ 64 ≤ disk_size (D.files (device_of self.old)) + note_size)
+            ⊎ (2 ^ 63 ≤ next_number (D.files (device_of self.old))) }
         ensures crash { D.is_known
             → LeavesOnly D.moment D.left_at (device_of self.old) (device_of self.new)
             (LeftByNote (D.files (device_of self.old)) number) }

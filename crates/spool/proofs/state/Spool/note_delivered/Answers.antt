@@ -1,9 +1,10 @@
-use Rattle.std.proofs.Common.{◌≡◌, ℕ, ap, sym, ◌∙◌, ◌<◌}
-use Rattle.std.proofs.Common.{min, arith}
+use Rattle.std.proofs.Common.{◌≡◌, inl, ℕ, ap, sym, ◌∙◌, ◌<◌}
+use Rattle.std.proofs.Common.{min, length, arith}
 use Rattle.spool_device.specs.Crashes.{Appended}
 use Rattle.spool.specs.Spools.{LeftByNote, next_number, done_to}
 use Rattle.spool.specs.Settled.{IsSame, IsNoLarger}
 use Rattle.spool.proofs.Moments.{started, weaker, and_then}
+use Rattle.spool.proofs.PutLaws.{length-note}
 use Rattle.spool.proofs.NoteLaws.{left-by-same, left-by-none, left-by-note, note-grows, note-newest}
 use Rattle.spool.proofs.NoteLaws.{note-waiting}
 use Rattle.spool.proofs.NoteLaws.{left-by-removal, note-reserved, noted-before}
@@ -247,3 +248,10 @@ returns-clause-crash g c = λ known.
     and_then g.D.Device.moment g.D.Device.left_at c.args.self.now.device c.write.new.self.device
     c.remove_done.new.self.device
     (LeftByNote disk number) both third
+
+pub returns-in_default-clause-full : goal.returns-in_default-clause-full
+returns-in_default-clause-full g c = λ _ known.
+    let was = c.requires known in
+    let sized = ap length c.in_ok-bytes.ensures.written ∙ length-note c.min-noted.result in
+    inl
+    (omega (arith, c.in_default.ensures, was.size, c.len.ensures, sized, c.in_ok-bytes.bytes.ok.0))
