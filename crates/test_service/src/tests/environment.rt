@@ -1,5 +1,6 @@
 //! A whole service by settings, and by the environment.
 use crate::tests::equal::assert_equal;
+use http_exporter::ReportsFailure;
 use otel_settings::settings_of;
 use otlp_span::Kind;
 use retry_core::RetryConfig;
@@ -9,7 +10,7 @@ use std::process::Abort;
 use std::str;
 use std::sync::{Arc, Mutex, Wait};
 use thread_tracer::{Refused, ThreadTrace};
-use traced_service::{ServiceSetup, ThreadDone, TracedWork, serve_from_environment};
+use traced_service::{ServiceSetup, ThreadDone, TracedDone, TracedWork, serve_from_environment};
 
 /// What was refused where nothing was.
 const NONE: Refused = Refused {
@@ -28,6 +29,17 @@ impl TracedWork for Numbered {
         trace.end(span);
         thread
     }
+}
+
+/// The lines of what a service came to.
+fn counts_of<E: ReportsFailure, L: Write + Drop>(
+    rt: &impl Abort,
+    alloc: Global,
+    done: &TracedDone<usize, E, L>,
+) -> Vec<u8> {
+    let mut lines = Vec::new(alloc);
+    done.write_counts(&mut lines).expect(rt, "memory");
+    lines
 }
 
 /// Asserts that each thread came to its own number, in their order.
@@ -53,6 +65,8 @@ fn a_service_that_is_off_does_its_work_and_hands_nothing_over(rt: HostRuntime) {
     assert_numbers(&rt, &done.threads);
     assert_equal(&rt, (done.threads.len(), done.refused), (3, NONE));
     assert_equal(&rt, (done.totals().handed, done.is_delivered()), (0, true));
+    let lines = counts_of(&rt, alloc, &done);
+    assert_equal(&rt, lines.starts_with(b"spans handed 0\n"), true);
 }
 
 /// Each thread gives its number, and makes no span.
@@ -68,9 +82,12 @@ impl TracedWork for Idle {
 
 #[test]
 fn a_service_from_the_environment_does_its_work(rt: HostRuntime) {
+    let alloc = rt.alloc();
     let done = serve_from_environment(rt, rt.stderr(), "shop", 2, &Idle).expect(&rt, "a service");
     assert_numbers(&rt, &done.threads);
     assert_equal(&rt, (done.threads.len(), done.totals().handed), (2, 0));
+    let lines = counts_of(&rt, alloc, &done);
+    assert_equal(&rt, lines.starts_with(b"spans handed 0\n"), true);
 }
 
 /// How many spans each thread of a flood ends.
@@ -162,5 +179,7 @@ fn of_eight_threads_each_span_that_is_not_delivered_is_named_once(rt: HostRuntim
     let named = totals.lost.saturating_add(totals.dropped.queue_full);
     assert_equal(&rt, (named, totals.left), (8 * FLOOD, 0));
     assert_equal(&rt, done.served.sink.unwritten(&rt), 0);
+    let lines = counts_of(&rt, alloc, &done);
+    assert_equal(&rt, lines.starts_with(b"spans handed "), true);
     assert_each_once(&rt, &mut *tickets.lock(&rt), 8 * FLOOD);
 }
