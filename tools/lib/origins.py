@@ -1,10 +1,12 @@
 """Requests to trace-view from pages of other origins, by hand and in a browser."""
 import contextlib
 import http.server
+import json
 import threading
 
 from lib.harness import run
 from lib.http import HOST, TYPE
+from lib.json_texts import TEXT
 from lib.view import TRACE, Link, View, tree_body
 
 SHOP, LOCAL = "https://shop.example", "http://localhost:8080"
@@ -22,10 +24,10 @@ BAD_ORIGINS = (
     "*", "null", "shop.example", "https://", "https://shop.example/", "https://shop.example/path",
     "ftp://shop.example", "https://a@shop.example", "https://shop example",
 )
-# A page that posts, and says what came of it.
+# A page that posts a text of JSON, and says what came of it.
 PAGE = """<p id="said">waiting</p><script>
 fetch("http://{host}:{port}/v1/traces", {{method: "POST",
-  headers: {{"content-type": "application/x-protobuf"}}, body: new Uint8Array({body})}})
+  headers: {{"content-type": "application/json"}}, body: {body}}})
 .then(it => {{ document.getElementById("said").textContent = "status " + it.status }},
   () => {{ document.getElementById("said").textContent = "refused" }});
 </script>"""
@@ -115,8 +117,7 @@ def page_at(text):
 
 def browser_origin_rows(program, dom_of):
     """A page in a browser posts from another origin, which is allowed or not."""
-    body = list(tree_body(TRACE, 3))
-    ports = []
+    body, ports = json.dumps(TEXT.decode()), []
     with page_at(lambda: PAGE.format(host=HOST, port=ports[0], body=body)) as own:
         for name, words, wanted, traces in (
             ("a page of an allowed origin posts", ["--allow-origin", f"http://{HOST}:{own}"],
