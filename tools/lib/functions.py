@@ -38,9 +38,9 @@ def last_name(path):
 
 
 def name_of_impl(head):
-    """The name under which a check reports the functions of an impl: its type, then the trait's
-    name, and then the names of the types that the trait is given; and whether it is an impl of a
-    trait."""
+    """The name under which a check reports the functions of an impl: its type, the types that this
+    is given, the trait's name, and the types that the trait is given; and whether it is an impl of
+    a trait."""
     head = re.split(r"\bwhere\b", head.partition("impl")[2])[0].replace("->", "").strip()
     generics = first_brackets(head) if head.startswith("<") else ""
     rest = head[len(generics) + 2 if generics else 0 :]
@@ -48,10 +48,12 @@ def name_of_impl(head):
     if not has_trait:
         return last_name(trait), False
     own = re.findall(r"\w+", without_brackets(generics))
-    given = re.findall(r"\b[A-Z]\w*", first_brackets(trait))
-    words = [it for it in given if it not in own]
-    name, type_ = last_name(trait), last_name(type_)
-    return type_[:1].upper() + type_[1:] + ("" if name == "Drop" else name) + "".join(words), True
+
+    def named(path):
+        given = [it for it in re.findall(r"\b[A-Za-z]\w*", first_brackets(path)) if it not in own]
+        return "".join(it[:1].upper() + it[1:] for it in [last_name(path), *given])
+
+    return named(type_) + ("" if last_name(trait) == "Drop" else named(trait)), True
 
 
 def block_of(head):
