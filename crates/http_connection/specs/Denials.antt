@@ -26,6 +26,7 @@ code_of denials.UriTooLong = 414
 code_of denials.MediaType = 415
 code_of denials.FieldsTooLarge = 431
 code_of denials.UnknownCoding = 501
+code_of denials.KeepFailed = 503
 code_of denials.OutOfMemory = 503
 code_of denials.NoRoom = 503
 code_of denials.UnknownVersion = 505
@@ -38,7 +39,7 @@ message_of denials.BadBody =
 message_of denials.BadCoding =
     codes "the body can't be read as a gzip file, as Content-Encoding says"
 message_of denials.Host =
-    codes "this host isn't one of trace-view's: start trace-view with --host NAME"
+    codes "this host isn't one of the service's: start it with --host NAME"
 message_of denials.NoPath = codes "no such path: post traces to /v1/traces"
 message_of denials.TracesOnly = codes "traces only: metrics and logs are not taken"
 message_of denials.ExportMethod = codes "post traces with the method POST"
@@ -54,6 +55,7 @@ message_of denials.MediaType =
     ++ codes "its compression to gzip or none"
 message_of denials.FieldsTooLarge = codes "the fields of the request are too large"
 message_of denials.UnknownCoding = codes "a transfer coding other than chunked isn't known"
+message_of denials.KeepFailed = codes "traces can't be kept: the service's disk has failed"
 message_of denials.OutOfMemory = codes "out of memory: try again in a second"
 message_of denials.NoRoom = codes "too much is pending: try again in a second"
 message_of denials.UnknownVersion = codes "send the request by HTTP/1.1"
@@ -64,7 +66,7 @@ allow_fields denials.ExportMethod = (codes "allow", codes "OPTIONS, POST") ∷ [
 allow_fields denials.PageMethod = (codes "allow", codes "GET, HEAD") ∷ []
 allow_fields _ = []
 
--- 503 says after how many seconds to try again (RFC 9110, section 10.2.3)
+-- 503 says after how many seconds to try again, where that may help (RFC 9110, section 10.2.3)
 abbrev pub wait_fields : Denial → List Header
 wait_fields denials.OutOfMemory = (codes "retry-after", codes "1") ∷ []
 wait_fields denials.NoRoom = (codes "retry-after", codes "1") ∷ []

@@ -2,8 +2,10 @@ pub mod Connections
 pub mod Denials
 pub mod Formats
 pub mod Hosts
+pub mod Judged
 pub mod Limits
 pub mod Outputs
+pub mod Pages
 pub mod Requests
 pub mod Runs
 pub mod Tallies

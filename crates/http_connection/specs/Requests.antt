@@ -18,6 +18,14 @@ is_export_path path =
     bytes_eq path (codes "/v1/traces")
     || (bytes_eq path (codes "/v1/metrics") || bytes_eq path (codes "/v1/logs"))
 
+-- a request for the path to which traces are posted
+abbrev pub is_export_of_traces : HttpRequest (List ℕ) → Bool
+is_export_of_traces request = bytes_eq (uri_path (head_of request).uri) (codes "/v1/traces")
+
+-- a request that asks which methods there are (RFC 9110, section 9.3.7)
+abbrev pub asks_for_methods : HttpRequest (List ℕ) → Bool
+asks_for_methods request = bytes_eq (head_of request).method (codes "OPTIONS")
+
 -- an export: a post, or a request for a path of exports
 abbrev pub is_export : Parts → Bool
 is_export head = is_export_path (uri_path head.uri) || bytes_eq head.method (codes "POST")

@@ -3,7 +3,7 @@
 //! is answered so that the answer arrives.
 //!
 //! A [`Connection`] reads what a [`Service`] has to answer from bytes that the caller reads, and
-//! keeps the bytes that the caller is to write. [`reply`] has what the service of `trace-view` says
+//! keeps the bytes that the caller is to write. [`reply`] has what a service of exports says
 //! where it refuses a request, and in what formats it answers.
 #![tactic(auto)]
 

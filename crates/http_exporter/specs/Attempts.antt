@@ -37,8 +37,7 @@ shown contents remaining failed_writes failed_reads = record {
 
 -- an exporter over links: what dials, where requests go, in which coding they say that their bodies
 -- are, how much of a reply is read, whether what came is read where a write failed, and what the
--- last
--- attempt met that failed
+-- last attempt met that failed
 pub record Exporting (Dial : Type 0) : Type 0 where
   pub dial : Dial
   pub target : Address

@@ -28,8 +28,7 @@ pub record Compressing (Exporter : Type 0) : Type 0 where
 
 -- The outcome of an attempt. Either the exporter attempted the gzip file of the body, once, in
 -- requests that say so; the file is kept, and it is the one that was kept of this body before. Or
--- it
--- attempted the body as it is, and no file of it was kept, or it doesn't compress.
+-- it attempted the body as it is, and no file of it was kept, or it doesn't compress.
 pub data IsCompressedAttempt {Exporter : Type 0}
     (attempts : Exporter → List ℕ → Outcome → Exporter → Type 0)
     (coded : Exporter → Coding → Exporter)

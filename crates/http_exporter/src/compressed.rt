@@ -36,7 +36,7 @@ pub trait CodesBodies: ReportsFailure {
 /// An exporter that sends each body as a gzip file, with `Content-Encoding: gzip`, and else does
 /// what the exporter does that it was made of (OTLP Specification, "OTLP/HTTP Request"; RFC 9110,
 /// section 8.4.1.3). The file is made at the first attempt of a body and kept, so that each further
-/// attempt sends the same bytes. Where memory is refused to it, the body goes out as it is.
+/// attempt sends the same bytes. An attempt for which memory is refused sends the body as it is.
 ///
 /// It keeps the last body and its file, and from the first attempt on 272 KB of tables. In contracts
 /// it is a `Compressing`.

@@ -60,9 +60,8 @@ fn head_length<A: Allocator>(
 }
 
 /// Writes the request that carries `body`, in this coding, to the target and asks this of its
-/// connection. Where the
-/// head fits [`FRONT_ROOM`] and the link takes all that it is given, that is two writes, and one
-/// where the request is small; a longer head goes out piece by piece.
+/// connection. Where the head fits [`FRONT_ROOM`] and the link takes all that it is given, that is
+/// two writes, and one where the request is small; a longer head goes out piece by piece.
 ///
 /// # Errors
 ///

@@ -1,9 +1,8 @@
 //! Batches that are sent over HTTP (OTLP Specification, "OTLP/HTTP"; RFC 9112): an exporter that
 //! posts each body over a link of its own, which a [`Dial`] gives. Over TCP it is the
-//! [`HttpExporter`]. A [`KeptExporter`] keeps its link for the next body as long as replies let it. A
-//! [`CompressedExporter`] has either send bodies as gzip files.
-//! A [`Failure`] is why the last failed attempt failed; a [`FailureWatch`] shows it while the
-//! exporter works on another thread.
+//! [`HttpExporter`]. A [`KeptExporter`] keeps its link for the next body as long as replies let it.
+//! A [`CompressedExporter`] has either send bodies as gzip files. A [`Failure`] is why the last
+//! failed attempt failed; a [`FailureWatch`] shows it while the exporter works on another thread.
 #![tactic(auto)]
 
 mod buffer;

@@ -1,8 +1,7 @@
 -- What the standard has and this kit hasn't: of such a variable each value is a fault but the one
 -- that says what there is. (OpenTelemetry Specification, Environment Variable Specification,
--- General
--- SDK Configuration, Exporter Selection; OTLP Specification, OTLP Exporter Configuration; that they
--- are faults: profile)
+-- General SDK Configuration, Exporter Selection; OTLP Specification, OTLP Exporter Configuration;
+-- that they are faults: profile)
 use Rattle.std.specs.Prelude.{ℕ, Bool, false, List, map, ◌++◌, Option, Some, None, bytes_eq, codes}
 use Rattle.std.specs.Char.{to_ascii_lowercase}
 use Rattle.otel_settings.specs.declared.variable.Variable.{Variable}

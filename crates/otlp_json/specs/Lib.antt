@@ -4,3 +4,5 @@ pub mod Leaves
 pub mod Fronts
 pub mod Bodies
 pub mod Writing
+pub mod MessageNames
+pub mod LeafNames

@@ -2,8 +2,8 @@
 //! Format"): what the text of an `ExportTraceServiceRequest` means, as the bytes that a message
 //! means in Protocol Buffers.
 //!
-//! [`read_body`] gives these bytes. So whoever reads bytes reads JSON too: a
-//! member of an object is a field, under its number, and what fields mean is said for bytes alone.
+//! [`read_body`] gives these bytes. So whoever reads bytes reads JSON too: a member of an object is
+//! a field, under its number, and what fields mean is said for bytes alone.
 //!
 //! - Names are in lowerCamelCase. A member of another name is skipped, and so is one that is null.
 //! - Identifiers of traces and spans are in hexadecimal, in either case. Other bytes are in Base64,

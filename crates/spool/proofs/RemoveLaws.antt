@@ -5,15 +5,16 @@ use Rattle.std.proofs.Common.{List, [], ◌∷◌, ◌++◌, length, map, drop, 
 use Rattle.std.specs.Prelude.{Option, Some, None, IsSome}
 use Rattle.std.specs.Option.{option_to_list}
 use Rattle.spool_device.specs.Disks.{SpoolFile, Disk, disk_size}
-use Rattle.spool_device.specs.Crashes.{Removed, Only}
+use Rattle.spool_device.specs.Crashes.{Removed, Only, LeavesOnly}
 use Rattle.spool.specs.Spools.{end_of, done_to, next_number, waiting, CanGrow}
 use Rattle.spool.specs.Settled.{segment_of, IsSettled, IsNoted, IsNoLarger}
 use Rattle.spool.specs.declared.state.Segment.{Segment}
 use Rattle.spool.specs.declared.state.Spool.{Spool}
+use Rattle.spool.proofs.Moments.{weaker}
 use Rattle.spool.proofs.PutLaws.{without-first, grows-without}
 
 -- Two files at least: the oldest, and one that grows.
-pub record TwoFiles (disk : Disk) (first : Segment) (others : List Segment)
+record TwoFiles (disk : Disk) (first : Segment) (others : List Segment)
     (growing : Option Segment) : Type 0 where
   pub oldest : SpoolFile
   pub second : SpoolFile
@@ -28,7 +29,7 @@ none-after others None some is = cc
 none-after others (Some s) some is = omega (arith, ap length is, length-append others (s ∷ []))
 
 -- Where the older segments have a first one.
-pub two-files : (disk : Disk) (first : Segment) (others : List Segment) (growing : Option Segment)
+two-files : (disk : Disk) (first : Segment) (others : List Segment) (growing : Option Segment)
     → IsSome growing → first ∷ (others ++ option_to_list growing) ≡ map segment_of disk
     → TwoFiles disk first others growing
 two-files [] first others growing some is = absurd (cc)
@@ -38,8 +39,7 @@ two-files (f ∷ []) first others growing some is =
 two-files (f ∷ g ∷ disk) first others growing some is =
     record { oldest = f; second = g; more = disk; are = refl; first_is = cc; others_are = cc }
 
--- The same bodies wait without the oldest file, or with it.
-pub left-removed : (disk left : Disk) (f g : SpoolFile) (more : Disk) → disk ≡ f ∷ g ∷ more
+left-removed : (disk left : Disk) (f g : SpoolFile) (more : Disk) → disk ≡ f ∷ g ∷ more
     → IsNoted disk → end_of f ≤ done_to disk → Removed disk left → IsNoLarger disk left
 left-removed disk left f g more are noted ended (inl same) =
     record { waits = ap waiting same; size = omega (arith, ap disk_size same) }
@@ -53,8 +53,7 @@ left-removed disk left f g more are noted ended (inr removed) =
       size = omega (arith, ap disk_size now, w.size, ap disk_size are);
     }
 
--- The newest file notes all that is noted, as before.
-pub noted-removed : (disk left : Disk) (f g : SpoolFile) (more : Disk) → disk ≡ f ∷ g ∷ more
+noted-removed : (disk left : Disk) (f g : SpoolFile) (more : Disk) → disk ≡ f ∷ g ∷ more
     → IsNoted disk → end_of f ≤ done_to disk → left ≡ drop 1 disk → IsNoted left
 noted-removed disk left f g more are noted ended removed =
     let there = subst IsNoted are noted in
@@ -66,15 +65,39 @@ module _ {D : Type 0} (files : D → Disk) (moment : D → ℕ) (left_at : D →
     (others : List Segment) (is : old.older.items ≡ first ∷ others)
     (some : IsSome old.growing) where
   -- The files that there are.
-  pub files-are : TwoFiles (files old.device) first others old.growing
+  files-are : TwoFiles (files old.device) first others old.growing
   files-are =
       two-files (files old.device) first others old.growing some
       (ap (λ (l : List Segment). l ++ option_to_list old.growing) (sym is) ∙ was.segments)
 
   -- All bodies of the oldest are noted.
-  pub oldest-ended : first.«end» ≤ old.done → end_of files-are.oldest ≤ done_to (files old.device)
+  oldest-ended : first.«end» ≤ old.done → end_of files-are.oldest ≤ done_to (files old.device)
   oldest-ended ended =
       omega (arith, ended, was.done, ap (λ (s : Segment). s.«end») files-are.first_is)
+
+  -- The same bodies wait without the oldest file, or with it.
+  pub removed-leaves : IsNoted (files old.device) → first.«end» ≤ old.done → (left : Disk)
+      → Removed (files old.device) left → IsNoLarger (files old.device) left
+  removed-leaves noted ended left removed =
+      let t = files-are in
+      left-removed (files old.device) left t.oldest t.second t.more t.are noted
+      (oldest-ended ended) removed
+
+  -- So the same is left while it is removed.
+  pub removal-leaves : IsNoted (files old.device) → first.«end» ≤ old.done → (new : D)
+      → LeavesOnly moment left_at old.device new (Removed (files old.device))
+      → LeavesOnly moment left_at old.device new (IsNoLarger (files old.device))
+  removal-leaves noted ended new run =
+      weaker moment left_at old.device new (Removed (files old.device))
+      (IsNoLarger (files old.device)) (removed-leaves noted ended) run
+
+  -- The newest file notes all that is noted, as before.
+  pub removed-noted : IsNoted (files old.device) → first.«end» ≤ old.done → (left : Disk)
+      → left ≡ drop 1 (files old.device) → IsNoted left
+  removed-noted noted ended left removed =
+      let t = files-are in
+      noted-removed (files old.device) left t.oldest t.second t.more t.are noted
+      (oldest-ended ended) removed
 
   -- After the oldest file was removed.
   pub settled-removed : (new : Spool D) → IsNoted (files old.device) → first.«end» ≤ old.done

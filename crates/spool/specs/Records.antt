@@ -40,8 +40,7 @@ unfolding length_at
 after_at bytes = drop (8 + length_at bytes) bytes
 
 -- Whether bytes begin with a record: with as many bytes as its length says, at least one, whose
--- check
--- is the one that is there.
+-- check is the one that is there.
 unfoldable pub is_record_at : List ℕ → Bool
 unfolding length_at content_at
 is_record_at bytes =
@@ -62,8 +61,7 @@ rest_by zero bytes = bytes
 rest_by (suc n) bytes = if is_record_at bytes then rest_by n (after_at bytes) else bytes
 
 -- The contents of the records that bytes begin with, up to where they go on with no record. No
--- record
--- is shorter than a byte, so there are no more than the bytes are.
+-- record is shorter than a byte, so there are no more than the bytes are.
 unfoldable pub contents : List ℕ → List (List ℕ)
 unfolding contents_by
 contents bytes = contents_by (length bytes) bytes

@@ -1,12 +1,13 @@
 -- What a spool knows of its files between two calls. (profile)
-use Rattle.std.specs.Prelude.{◌≡◌, ℕ, ◌+◌, ◌-◌, ◌<◌, ◌≤◌, List, [], ◌∷◌, ◌++◌, length, map}
+use Rattle.std.specs.Prelude.{◌≡◌, ℕ, ◌+◌, ◌-◌, ◌*◌, ◌<◌, ◌≤◌, List, [], ◌∷◌, ◌++◌, length, map}
 use Rattle.std.specs.Prelude.{Option, Some, None, IsSome, min, ◌^◌}
 use Rattle.std.specs.Option.{option_to_list}
+use Rattle.std.specs.List.{AllByRecursion}
 use Rattle.spool_device.specs.Disks.{SpoolFile, Disk, grown, grow_last, disk_size}
 use Rattle.spool_device.specs.Crashes.{Only}
 use Rattle.spool.specs.Spools.{end_of, done_to, next_number, waiting, waiting_from, CanGrow}
-use Rattle.spool.specs.Spools.{notes_in}
-use Rattle.spool.specs.Spools.{greatest}
+use Rattle.spool.specs.Spools.{notes_in, greatest}
+use Rattle.spool.specs.Records.{IsContent, spelled, body_content, note_content, note_size}
 use Rattle.spool.specs.declared.state.Segment.{Segment}
 use Rattle.spool.specs.declared.state.Spool.{Spool}
 
@@ -59,6 +60,26 @@ pub record Grows (disk : Disk) (more : List ℕ) (next done size : ℕ) : Type 0
   pub size_is : size ≡ disk_size (grow_last more disk)
   pub still : CanGrow (grow_last more disk)
   pub end : end_of (grown more can.last) ≡ next
+
+-- These bytes are the records of bodies, after which the files have this next number and this
+-- size, which is within the limit.
+pub record IsPut (disk : Disk) (bodies : List (List ℕ)) (more : List ℕ) (next size limit : ℕ)
+    : Type 0 where
+  pub fits : AllByRecursion IsContent (map body_content bodies)
+  pub written : more ≡ spelled (map body_content bodies)
+  pub next_is : next ≡ next_number disk + length bodies
+  pub size_is : size ≡ disk_size disk + length more
+  pub within : size + note_size * (next - done_to disk) ≤ limit
+
+-- These bytes are the record of a note that all bodies below this number were delivered, which was
+-- not noted before, and after which the files have this size.
+pub record IsNote (disk : Disk) (number : ℕ) (more : List ℕ) (size : ℕ) : Type 0 where
+  pub later : done_to disk < number
+  pub there : number ≤ next_number disk
+  pub small : number < 2 ^ 64
+  pub fits : IsContent (note_content number)
+  pub written : more ≡ spelled (note_content number ∷ [])
+  pub size_is : size ≡ disk_size disk + length more
 
 -- the greatest number that the newest file notes
 abbrev pub last_done : Disk → ℕ

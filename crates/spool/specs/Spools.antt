@@ -94,10 +94,8 @@ HasNoRoom disk bodies limit =
 -- ---- crashes
 
 -- What a crash during a put leaves: what waited, and some of the bodies, the first ones, none, some
--- or
--- all, each of them whole, with the numbers that they are given. The files stay within the limit,
--- if
--- they were.
+-- or all, each of them whole, with the numbers that they are given. The files stay within the
+-- limit, if they were.
 pub record LeftByPut (disk : Disk) (bodies : List (List ℕ)) (limit : ℕ) (left : Disk) : Type 0 where
   pub count : ℕ
   pub few : count ≤ length bodies

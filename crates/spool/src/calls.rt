@@ -9,70 +9,64 @@ ghost use Rattle.spool.specs.Spools.{waiting, next_number, reserved, numbered_fr
 ghost use Rattle.spool.specs.Spools.{HasNoRoom};
 ghost use Rattle.spool.specs.Settled.{IsSettled, device_of, limit_of};
 
-use crate::records::{bodies_record, note_record};
-use crate::state::room_for;
-use crate::{Spool, SpoolError};
+use crate::SpoolError;
+use crate::state::Spool;
 use spool_device::Device;
 use std::alloc::Global;
 
 impl<D: Device> Spool<D> {
-    /// Puts bodies, in this order, after those that wait, and syncs once. It answers the number of the
-    /// first one; the others have those after it. From then on a crash at any moment leaves each of
-    /// them until its delivery was noted. A crash before leaves some of them, the first ones, none,
-    /// some or all, each whole.
+    /// Puts bodies, in this order, after those that wait, and syncs once. It answers the number of
+    /// the first one; the others have those after it. From then on a crash at any moment leaves
+    /// each of them until its delivery was noted. A crash before that leaves the first so many of
+    /// them: none, some or all, each of them whole.
     ///
     /// # Errors
     ///
-    /// `Full`: with these bodies, and notes of their deliveries, the files would pass the limit; or a
-    /// body has 2^32 - 1 bytes or more, or there have been 2^63 bodies. Nothing has changed then.
+    /// `Full`: with these bodies, and notes of their deliveries, the files would pass the limit; or
+    /// a body has 2^32 - 1 bytes or more, or there have been 2^63 bodies. Nothing has changed then.
     /// `Memory`, `Failed`: open the spool again, which has some of the bodies or none.
     pub fn put(&mut self, alloc: Global, bodies: &[Vec<u8>]) -> Result<u64, SpoolError>
         requires { D.is_known → IsSettled D.files D.moment D.left_at self.old }
-        ensures settled { OnOk result (D.is_known → IsSettled D.files D.moment D.left_at self.new) }
-        ensures waiting { IfOk result (λ first. D.is_known → waiting (D.files (device_of self.new))
-            ≡ waiting (D.files (device_of self.old)) ++ enumerate_from first (map (λ body. body.items) bodies.now)) }
+        ensures settled { OnOk result (D.is_known
+            → IsSettled D.files D.moment D.left_at self.new) }
+        ensures waiting { IfOk result (λ first. D.is_known
+            → waiting (D.files (device_of self.new)) ≡ waiting (D.files (device_of self.old))
+            ++ enumerate_from first (map (λ body. body.items) bodies.now)) }
         ensures bound { OnOk result (D.is_known
             → reserved (D.files (device_of self.new)) ≤ limit_of self.new) }
         ensures limit { limit_of self.new ≡ limit_of self.old }
         ensures refused { IsErrOf result SpoolError.Full → self.new ≡ self.old }
         ensures full { IsErrOf result SpoolError.Full → D.is_known
-            → HasNoRoom (D.files (device_of self.old)) (map (λ body. body.items) bodies.now) (limit_of self.old) }
+            → HasNoRoom (D.files (device_of self.old)) (map (λ body. body.items) bodies.now)
+            (limit_of self.old) }
         ensures crash { D.is_known
             → LeavesOnly D.moment D.left_at (device_of self.old) (device_of self.new)
-            (LeftByPut (D.files (device_of self.old)) (map (λ body. body.items) bodies.now) (limit_of self.old)) }
+            (LeftByPut (D.files (device_of self.old)) (map (λ body. body.items) bodies.now)
+            (limit_of self.old)) }
     {
-        let bytes = bodies_record(alloc, &self.table, bodies)?;
-        let Some((size, next)) = room_for(
-            self.limit,
-            self.size,
-            self.next,
-            self.done,
-            bytes.len() as u64,
-            bodies.len() as u64,
-        ) else {
-            return Err(SpoolError::Full);
-        };
-        self.make_open(bytes.len() as u64)?;
+        let (bytes, next, size) = self.put_record(alloc, bodies)?;
         let first = self.next;
-        self.write(&bytes, next, self.done, size)?;
+        self.add_bodies(&bytes, next, size)?;
         Ok(first)
     }
 
-    /// Notes that all bodies with a lower number were delivered, and syncs once. From then on no crash
-    /// brings them back: they are not given again. A crash before may, so a body can be delivered
-    /// twice. Files whose bodies are all delivered are removed.
+    /// Notes that all bodies with a lower number were delivered, and syncs once. From then on no
+    /// crash brings them back: they are not given again. A crash before may, so a body can be
+    /// delivered twice. Files whose bodies are all delivered are removed.
     ///
     /// # Errors
     ///
-    /// `Memory`, `Failed`; `Full` only if the files have 2^64 bytes, or there have been 2^63 bodies.
-    /// After an error open the spool again.
+    /// `Memory`, `Failed`; `Full` only if the files have 2^64 bytes, or there have been 2^63
+    /// bodies. After an error open the spool again.
     pub fn note_delivered(&mut self, alloc: Global, number: u64) -> Result<(), SpoolError>
         requires { D.is_known → IsSettled D.files D.moment D.left_at self.old }
-        ensures settled { OnOk result (D.is_known → IsSettled D.files D.moment D.left_at self.new) }
+        ensures settled { OnOk result (D.is_known
+            → IsSettled D.files D.moment D.left_at self.new) }
         ensures waiting { OnOk result (D.is_known → waiting (D.files (device_of self.new))
             ≡ numbered_from number (waiting (D.files (device_of self.old)))) }
         ensures bound { OnOk result (D.is_known
-            → reserved (D.files (device_of self.new)) ≤ reserved (D.files (device_of self.old))) }
+            → reserved (D.files (device_of self.new))
+            ≤ reserved (D.files (device_of self.old))) }
         ensures limit { limit_of self.new ≡ limit_of self.old }
         ensures full { IsErrOf result SpoolError.Full → D.is_known
             → (2 ^ 64 ≤ disk_size (D.files (device_of self.old)) + note_size)
@@ -85,13 +79,8 @@ impl<D: Device> Spool<D> {
         if noted <= self.done {
             return Ok(());
         }
-        let bytes = note_record(alloc, &self.table, noted)?;
-        let Some(size) = self.size.checked_add(bytes.len() as u64) else {
-            return Err(SpoolError::Full);
-        };
-        self.make_open(bytes.len() as u64)?;
-        let next = self.next;
-        self.write(&bytes, next, noted, size)?;
+        let (bytes, size) = self.delivered_record(alloc, noted)?;
+        self.add_note(&bytes, noted, size)?;
         self.remove_done()?;
         Ok(())
     }

@@ -7,9 +7,9 @@ ghost use Rattle.spool_device.specs.Crashes.{LeavesOnly};
 ghost use Rattle.spool.specs.Spools.{done_to, next_number, waiting_in};
 ghost use Rattle.spool.specs.Settled.{IsSettled, device_of, limit_of};
 
+use crate::SpoolError;
 use crate::records::bodies_after;
-use crate::state::Segment;
-use crate::{Spool, SpoolError};
+use crate::state::{Segment, Spool};
 use spool_device::Device;
 use std::alloc::Global;
 
@@ -45,8 +45,9 @@ impl<D: Device> Spool<D> {
         self.older.len() + self.growing.iter().count()
     }
 
-    /// The bodies of a file that wait, by the file's index, counted from 0 for the oldest. Those of all
-    /// files, in order, are all bodies that wait. One file is read at a time, and nothing is changed.
+    /// The bodies of a file that wait, by the file's index, counted from 0 for the oldest. Those of
+    /// all files, in order, are all bodies that wait. One file is read at a time, and nothing is
+    /// changed.
     ///
     /// # Errors
     ///
@@ -58,7 +59,8 @@ impl<D: Device> Spool<D> {
             → slice_get (D.files (device_of self.old)) index ≡ Some file
             → enumerate_from found.first (map (λ body. body.items) found.bodies.items)
             ≡ waiting_in (done_to (D.files (device_of self.old))) file) }
-        ensures same { D.is_known → D.files (device_of self.new) ≡ D.files (device_of self.old) }
+        ensures same { D.is_known
+            → D.files (device_of self.new) ≡ D.files (device_of self.old) }
         ensures limit { limit_of self.new ≡ limit_of self.old }
         ensures crash { D.is_known
             → LeavesOnly D.moment D.left_at (device_of self.old) (device_of self.new)

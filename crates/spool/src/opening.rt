@@ -7,9 +7,9 @@ ghost use Rattle.spool.specs.Spools.{damaged_bytes};
 ghost use Rattle.spool.specs.Settled.{IsSettled, device_of, limit_of};
 ghost use Rattle.spool.specs.Surveys.{IsSurvey, IsSplit};
 
+use crate::SpoolError;
 use crate::records::scan;
-use crate::state::Segment;
-use crate::{Spool, SpoolError};
+use crate::state::{Segment, Spool};
 use gzip_read::CrcTable;
 use spool_device::Device;
 use std::alloc::Global;
@@ -19,8 +19,8 @@ use std::alloc::Global;
 pub struct Opened<D: Device> {
     /// The spool.
     pub spool: Spool<D>,
-    /// How many bytes of its files are not read: those of records that are cut short or damaged, and
-    /// what is after them in their file. No body is given of them.
+    /// How many bytes of its files are not read: those of records that are cut short or damaged,
+    /// and what is after them in their file. No body is given of them.
     pub damaged_bytes: u64,
 }
 
@@ -61,7 +61,8 @@ impl Survey {
     fn add(&mut self, table: &CrcTable<Global>, number: u64, bytes: &[u8]) -> Result<(), SpoolError>
         requires { number < 2 ^ 63 }
         ensures { OnOk result ((disk : Disk) (file : SpoolFile) → IsSurvey disk self.old
-            → file.number ≡ number → file.bytes ≡ bytes.now → IsSurvey (disk ++ file ∷ []) self.new) }
+            → file.number ≡ number → file.bytes ≡ bytes.now
+            → IsSurvey (disk ++ file ∷ []) self.new) }
     {
         let records = scan(table, bytes);
         let len = bytes.len() as u64;
@@ -134,9 +135,10 @@ fn split_last(segments: &mut Vec<Segment>, is_whole: bool, next: u64) -> Option<
 }
 
 impl<D: Device> Spool<D> {
-    /// Opens the files of a device as a spool. Their size may come up to `limit` bytes; a new file is
-    /// made once the newest one would pass `segment_limit` bytes. All files are read, one at a time,
-    /// and nothing of them is changed: what a crash leaves meanwhile, a crash before might have left.
+    /// Opens the files of a device as a spool. Their size may come up to `limit` bytes; a new file
+    /// is made once the newest one would pass `segment_limit` bytes. All files are read, one at a
+    /// time, and nothing of them is changed: what a crash leaves meanwhile, a crash before might
+    /// have left.
     ///
     /// # Errors
     ///
@@ -147,14 +149,16 @@ impl<D: Device> Spool<D> {
         limit: u64,
         segment_limit: u64,
     ) -> Result<Opened<D>, (SpoolError, D)>
-        ensures settled { IfOk result (λ opened. D.is_known → IsSettled D.files D.moment D.left_at opened.spool) }
+        ensures settled { IfOk result (λ opened. D.is_known
+            → IsSettled D.files D.moment D.left_at opened.spool) }
         ensures files { IfOk result (λ opened. D.is_known
             → D.files (device_of opened.spool) ≡ D.files device) }
         ensures damaged { IfOk result (λ opened. D.is_known
             → opened.damaged_bytes ≡ damaged_bytes (D.files device)) }
         ensures limit { IfOk result (λ opened. limit_of opened.spool ≡ limit) }
         ensures crash { IfOk result (λ opened. D.is_known
-            → LeavesOnly D.moment D.left_at device (device_of opened.spool) (D.left_at device (D.moment device))) }
+            → LeavesOnly D.moment D.left_at device (device_of opened.spool)
+            (D.left_at device (D.moment device))) }
         ensures crash_err { IfErr result (λ e. D.is_known
             → LeavesOnly D.moment D.left_at device e.1 (D.left_at device (D.moment device))) }
     {

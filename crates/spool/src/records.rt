@@ -44,7 +44,8 @@ pub(crate) fn record_at<'a>(
     bytes: &'a [u8],
 ) -> Option<(&'a [u8], &'a [u8])>
     ensures { MatchOption result (is_record_at bytes.now ≡ false) (λ x.
-        (is_record_at bytes.now ≡ true) × (x.0.now ≡ content_at bytes.now) × (x.1.now ≡ after_at bytes.now)) }
+        (is_record_at bytes.now ≡ true) × (x.0.now ≡ content_at bytes.now) × (x.1.now
+        ≡ after_at bytes.now)) }
 {
     let Some((length, check, after)) = head(bytes) else {
         return None;
@@ -86,8 +87,8 @@ fn noted(content: &[u8]) -> u64
     u64::from_le_bytes(*number)
 }
 
-/// What the records of a file are: how many bodies they keep, the greatest number that they note, and
-/// how many bytes are not read.
+/// What the records of a file are: how many bodies they keep, the greatest number that they note,
+/// and how many bytes are not read.
 #[derive(Clone, Copy, Debug)]
 pub(crate) struct FileRecords {
     pub(crate) bodies: u64,
@@ -124,7 +125,8 @@ pub(crate) fn bodies_after(
     bytes: &[u8],
     skip: u64,
 ) -> Result<Vec<Vec<u8>>, AllocError>
-    ensures { IfOk result (λ v. map (λ body. body.items) v.items ≡ drop skip (bodies (contents bytes.now))) }
+    ensures { IfOk result (λ v. map (λ body. body.items) v.items
+        ≡ drop skip (bodies (contents bytes.now))) }
 {
     let mut found = Vec::new(alloc);
     let mut skip = skip;
@@ -136,17 +138,17 @@ pub(crate) fn bodies_after(
     Ok(found)
 }
 
-/// Keeps the body of a content, if it has one, unless it is to be skipped. Answers how many are still
-/// to be skipped.
+/// Keeps the body of a content, if it has one, unless it is to be skipped. Answers how many are
+/// still to be skipped.
 fn push_body(
     alloc: Global,
     found: &mut Vec<Vec<u8>>,
     content: &[u8],
     skip: u64,
 ) -> Result<u64, AllocError>
-    ensures { IfOk result (λ left. (cs : List (List ℕ)) → map (λ body. body.items) found.new.items
-        ++ drop left (bodies cs) ≡ map (λ body. body.items) found.old.items
-        ++ drop skip (bodies (content.now ∷ cs))) }
+    ensures { IfOk result (λ left. (cs : List (List ℕ))
+        → map (λ body. body.items) found.new.items ++ drop left (bodies cs)
+        ≡ map (λ body. body.items) found.old.items ++ drop skip (bodies (content.now ∷ cs))) }
 {
     let Some((&BODY, body)) = content.split_first() else {
         return Ok(skip);
@@ -187,7 +189,8 @@ fn push_body_record(
     out: &mut Vec<u8>,
     body: &[u8],
 ) -> Result<(), SpoolError>
-    ensures written { OnOk result (out.new.items ≡ out.old.items ++ record_bytes (body_content body.now)) }
+    ensures written { OnOk result (out.new.items
+        ≡ out.old.items ++ record_bytes (body_content body.now)) }
     ensures fits { OnOk result (IsContent (body_content body.now)) }
     ensures full { IsErrOf result SpoolError.Full → 2 ^ 32 ≤ length body.now + 1 }
 {
@@ -205,8 +208,10 @@ pub(crate) fn bodies_record(
 ) -> Result<Vec<u8>, SpoolError>
     ensures written { IfOk result (λ v. v.items
         ≡ spelled (map body_content (map (λ body. body.items) bodies.now))) }
-    ensures fits { OnOk result (AllByRecursion IsContent (map body_content (map (λ body. body.items) bodies.now))) }
-    ensures full { IsErrOf result SpoolError.Full → IsOneTooLong (map (λ body. body.items) bodies.now) }
+    ensures fits { OnOk result (AllByRecursion IsContent
+        (map body_content (map (λ body. body.items) bodies.now))) }
+    ensures full { IsErrOf result SpoolError.Full
+        → IsOneTooLong (map (λ body. body.items) bodies.now) }
 {
     let mut out = Vec::new(alloc);
     for body in bodies {

@@ -5,9 +5,9 @@ ghost use Rattle.spool.specs.Spools.{done_to, next_number};
 ghost use Rattle.spool.specs.Settled.{IsSettled, IsNoted, IsNoLarger, FirstIsDone};
 ghost use Rattle.std.specs.Prelude.{IsSome, vec_len};
 
-use crate::state::Segment;
+use crate::SpoolError;
+use crate::state::{Segment, Spool};
 use crate::synced::remove_synced;
-use crate::{Spool, SpoolError};
 use spool_device::Device;
 
 /// Whether all bodies of the first segment are noted as delivered.
@@ -27,7 +27,8 @@ impl<D: Device> Spool<D> {
         requires is_open { IsSome self.old.growing }
         requires settled { D.is_known → IsSettled D.files D.moment D.left_at self.old }
         requires noted { D.is_known → IsNoted (D.files self.old.device) }
-        ensures settled { OnOk result (D.is_known → IsSettled D.files D.moment D.left_at self.new) }
+        ensures settled { OnOk result (D.is_known
+            → IsSettled D.files D.moment D.left_at self.new) }
         ensures noted { OnOk result (D.is_known → IsNoted (D.files self.new.device)) }
         ensures done { OnOk result (self.new.done ≡ self.old.done) }
         ensures next { OnOk result (self.new.next ≡ self.old.next) }
@@ -41,18 +42,19 @@ impl<D: Device> Spool<D> {
         ensures full { IsErrOf result SpoolError.Full → ⊥ }
     {
         let first = self.older.remove(0);
-        remove_synced(&mut self.device)?;
         self.size = self.size.saturating_sub(first.len);
+        remove_synced(&mut self.device)?;
         Ok(())
     }
 
-    /// Removes the oldest files, as long as all of their bodies are noted as delivered, by the newest
-    /// file.
+    /// Removes the oldest files, as long as all of their bodies are noted as delivered, by the
+    /// newest file.
     pub(crate) fn remove_done(&mut self) -> Result<(), SpoolError>
         requires is_open { IsSome self.old.growing }
         requires settled { D.is_known → IsSettled D.files D.moment D.left_at self.old }
         requires noted { D.is_known → IsNoted (D.files self.old.device) }
-        ensures settled { OnOk result (D.is_known → IsSettled D.files D.moment D.left_at self.new) }
+        ensures settled { OnOk result (D.is_known
+            → IsSettled D.files D.moment D.left_at self.new) }
         ensures done { OnOk result (self.new.done ≡ self.old.done) }
         ensures next { OnOk result (self.new.next ≡ self.old.next) }
         ensures limit { self.new.limit ≡ self.old.limit }

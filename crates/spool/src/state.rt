@@ -41,7 +41,8 @@ pub struct Spool<D: Device> {
     pub(crate) segment_limit: u64,
 }
 
-/// Whether there is a file that can grow and takes so many more bytes. One without bodies always does.
+/// Whether there is a file that can grow and takes so many more bytes. One without bodies always
+/// does.
 fn has_room(growing: Option<Segment>, len: u64, segment_limit: u64) -> bool
     ensures there { result ≡ true → IsSome growing }
     ensures bodies { result ≡ false → (segment : Segment) → growing ≡ Some segment
@@ -107,9 +108,11 @@ impl<D: Device> Spool<D> {
     /// Makes a new file, unless the newest one can grow and takes so many more bytes.
     pub(crate) fn make_open(&mut self, len: u64) -> Result<(), SpoolError>
         requires { D.is_known → IsSettled D.files D.moment D.left_at self.old }
-        ensures settled { OnOk result (D.is_known → IsSettled D.files D.moment D.left_at self.new) }
+        ensures settled { OnOk result (D.is_known
+            → IsSettled D.files D.moment D.left_at self.new) }
         ensures is_open { OnOk result (IsSome self.new.growing) }
-        ensures same { OnOk result (D.is_known → IsSame (D.files self.old.device) (D.files self.new.device)) }
+        ensures same { OnOk result (D.is_known → IsSame (D.files self.old.device)
+            (D.files self.new.device)) }
         ensures limit { self.new.limit ≡ self.old.limit }
         ensures crash { D.is_known → LeavesOnly D.moment D.left_at self.old.device self.new.device
             (IsSame (D.files self.old.device)) }
@@ -143,7 +146,8 @@ impl<D: Device> Spool<D> {
         requires settled { D.is_known → IsSettled D.files D.moment D.left_at self.old }
         requires is_open { IsSome self.old.growing }
         requires grows { D.is_known → Grows (D.files self.old.device) bytes.now next done size }
-        ensures settled { OnOk result (D.is_known → IsSettled D.files D.moment D.left_at self.new) }
+        ensures settled { OnOk result (D.is_known
+            → IsSettled D.files D.moment D.left_at self.new) }
         ensures is_open { OnOk result (IsSome self.new.growing) }
         ensures next { OnOk result (self.new.next ≡ next) }
         ensures done { OnOk result (self.new.done ≡ done) }

@@ -8,8 +8,10 @@ ghost use Rattle.spool.specs.Examples.{first, second, note, flipped, old_file, t
 /// The bytes of records, and what is read of them: whole, cut short and damaged.
 pub fn records()
     ensures body { record_bytes (1 ∷ 7 ∷ 8 ∷ []) ≡ first }
-    ensures note { record_bytes (2 ∷ 6 ∷ 0 ∷ 0 ∷ 0 ∷ 0 ∷ 0 ∷ 0 ∷ 0 ∷ []) ≡ note }
-    ensures whole { contents (first ++ second) ≡ (1 ∷ 7 ∷ 8 ∷ []) ∷ (1 ∷ 9 ∷ []) ∷ [] }
+    ensures note { record_bytes (2 ∷ 6 ∷ 0 ∷ 0 ∷ 0 ∷ 0 ∷ 0 ∷ 0 ∷ 0 ∷ [])
+        ≡ note }
+    ensures whole { contents (first ++ second)
+        ≡ (1 ∷ 7 ∷ 8 ∷ []) ∷ (1 ∷ 9 ∷ []) ∷ [] }
     ensures torn { contents (first ++ take 9 second) ≡ (1 ∷ 7 ∷ 8 ∷ []) ∷ [] }
     ensures left { rest (first ++ take 9 second) ≡ take 9 second }
     ensures damaged { contents (flipped ++ first) ≡ [] }
@@ -19,7 +21,8 @@ pub fn records()
 /// What files mean: bodies with their numbers, without those that a later file notes as delivered.
 pub fn spools()
     ensures one { waiting (old_file ∷ []) ≡ (5, 7 ∷ 8 ∷ []) ∷ (6, 9 ∷ []) ∷ [] }
-    ensures noted { waiting (old_file ∷ torn_file ∷ []) ≡ (6, 9 ∷ []) ∷ (9, 9 ∷ []) ∷ [] }
+    ensures noted { waiting (old_file ∷ torn_file ∷ [])
+        ≡ (6, 9 ∷ []) ∷ (9, 9 ∷ []) ∷ [] }
     ensures next { next_number (old_file ∷ torn_file ∷ []) ≡ 11 }
     ensures damaged { damaged_bytes (old_file ∷ torn_file ∷ damaged_file ∷ []) ≡ 31 }
     ensures later { next_number (old_file ∷ damaged_file ∷ []) ≡ 21 }

@@ -9,8 +9,7 @@ abbrev pub Created : ℕ → Disk → Disk → Type 0
 Created number old left = (left ≡ old) ⊎ (left ≡ old ++ new_file number ∷ [])
 
 -- some of the bytes, the first ones, were added to the newest file: none, all, or as many as came
--- to
--- the disk
+-- to the disk
 abbrev pub Appended : List ℕ → Disk → Disk → Type 0
 Appended bytes old left = (n : ℕ) × (left ≡ grow_last (take n bytes) old)
 

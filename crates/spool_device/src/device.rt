@@ -8,14 +8,14 @@ use crate::DeviceError;
 use std::alloc::Global;
 
 /// A folder with the files of a spool. Each has a number for its name, and the numbers rise: the
-/// oldest file is the first one. Files are made at the end, grow at the end, and are removed from the
-/// front.
+/// oldest file is the first one. Files are made at the end, grow at the end, and are removed from
+/// the front.
 ///
-/// The clauses say what a folder does that is to be trusted with a spool. No contract can say that of
-/// a real folder: there `is_known` is false, and the clauses are premises. The premises of a crash are
-/// these: it leaves each file that was made, grew or was removed since the last sync as it was before
-/// or after that, and of bytes that were added the first ones, none, some or all. What was synced is
-/// left. No other program changes the files.
+/// The clauses say what a folder does that is to be trusted with a spool. No contract can say that
+/// of a real folder: there `is_known` is false, and the clauses are premises. The premises of a
+/// crash are these: it leaves each file that was made, grew or was removed since the last sync as
+/// it was before or after that, and of bytes that were added the first ones, none, some or all.
+/// What was synced is left. No other program changes the files.
 ///
 /// After a call has failed, what a read returns is not known: open the folder again.
 pub trait Device {
@@ -37,7 +37,8 @@ pub trait Device {
     ///
     /// `Memory`, `Failed`.
     fn numbers(&mut self, alloc: Global) -> Result<Vec<u64>, DeviceError>
-        ensures numbers { IfOk result (λ v. is_known → v.items ≡ file_numbers (files self.old)) }
+        ensures numbers { IfOk result (λ v. is_known
+            → v.items ≡ file_numbers (files self.old)) }
         ensures small { IfOk result (λ v. All (λ number. number < 2 ^ 63) v.items) }
         ensures same { is_known → files self.new ≡ files self.old }
         ensures crash { is_known → LeavesOnly moment left_at self.old self.new
@@ -64,7 +65,8 @@ pub trait Device {
         requires small { number < 2 ^ 63 }
         requires newest { is_known → (front : List SpoolFile) (last : SpoolFile)
             → files self.old ≡ front ++ last ∷ [] → last.number < number }
-        ensures made { OnOk result (is_known → files self.new ≡ files self.old ++ new_file number ∷ []) }
+        ensures made { OnOk result (is_known
+            → files self.new ≡ files self.old ++ new_file number ∷ []) }
         ensures crash { is_known → LeavesOnly moment left_at self.old self.new
             (After (Created number) (left_at self.old (moment self.old))) };
 
@@ -74,7 +76,8 @@ pub trait Device {
     ///
     /// `Memory`; `Failed`, also where there is no file: some of the bytes may be there.
     fn append(&mut self, bytes: &[u8]) -> Result<(), DeviceError>
-        ensures written { OnOk result (is_known → files self.new ≡ grow_last bytes.now (files self.old)) }
+        ensures written { OnOk result (is_known
+            → files self.new ≡ grow_last bytes.now (files self.old)) }
         ensures crash { is_known → LeavesOnly moment left_at self.old self.new
             (After (Appended bytes.now) (left_at self.old (moment self.old))) };
 

@@ -1,5 +1,5 @@
-//! A device in memory, for tests: it fails after so many calls, and then a read returns what a crash
-//! would have left.
+//! A device in memory, for tests: it fails after so many calls, and then a read returns what a
+//! crash would have left.
 ghost use Rattle.std.specs.Prelude.{◌≡◌, ◌++◌, [], ◌∷◌, length, OnOk, OnErr, IfOk, map, All, ◌<◌, ◌^◌};
 ghost use Rattle.spool_device.specs.Memory.{files_view, past_view, was_left};
 ghost use Rattle.spool_device.specs.Disks.{SpoolFile, grow_last, file_numbers};
@@ -70,7 +70,8 @@ fn begin(
     files: &[MemoryFile],
     past: &mut Vec<Vec<MemoryFile>>,
 ) -> Result<(), AllocError>
-    ensures ok { OnOk result (past_view past.new.items ≡ past_view past.old.items ++ files_view files.now ∷ []) }
+    ensures ok { OnOk result (past_view past.new.items
+        ≡ past_view past.old.items ++ files_view files.now ∷ []) }
     ensures err { OnErr result (past.new.items ≡ past.old.items) }
 {
     past.push(copy(alloc, files)?)?;
@@ -88,7 +89,8 @@ fn is_left(calls_left: &mut u64) -> bool {
 
 /// Adds bytes to the last file, if there is one.
 fn grow(files: &mut Vec<MemoryFile>, bytes: &[u8]) -> Result<(), DeviceError>
-    ensures ok { OnOk result (files_view files.new.items ≡ grow_last bytes.now (files_view files.old.items)) }
+    ensures ok { OnOk result (files_view files.new.items
+        ≡ grow_last bytes.now (files_view files.old.items)) }
     ensures err { OnErr result (files_view files.new.items ≡ files_view files.old.items) }
 {
     let Some(mut last) = files.pop() else {

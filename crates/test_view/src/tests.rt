@@ -3,5 +3,6 @@
 mod bodies;
 mod equal;
 mod hosts;
+mod peers;
 mod store;
 mod text;

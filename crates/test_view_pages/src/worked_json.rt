@@ -7,7 +7,7 @@
 ghost use Rattle.std.specs.Prelude.{◌≡◌, ◌∷◌, [], Some, codes, from_bits, true, false, pos, negsuc};
 ghost use Rattle.std.specs.Float.{binary64};
 ghost use Rattle.std.specs.Float.Ieee.{fin};
-ghost use Rattle.json.specs.Token.{key, string};
+ghost use Rattle.json.specs.Token.{key, number, string};
 ghost use Rattle.view_json.specs.Seen.{Number, Other, float_seen, hex_member, long_member};
 ghost use Rattle.view_json.specs.Seen.{seen};
 
@@ -17,6 +17,14 @@ pub fn members()
         ≡ Other (key (codes "spanId")) ∷ Other (string (codes "00ab10")) ∷ [] }
     ensures long { seen (long_member (codes "timeUnixNano") 1544712660000000000)
         ≡ Other (key (codes "timeUnixNano")) ∷ Other (string (codes "1544712660000000000")) ∷ [] }
+{}
+
+/// A whole number is its digits, and one with a point or an exponent is a double.
+#[tactic(auto, unfolding(fast_float::proofs::OnLiterals::fast_float_on_literals))]
+pub fn numbers()
+    ensures whole { seen (number (codes "257") ∷ []) ≡ Other (number (codes "257")) ∷ [] }
+    ensures below { seen (number (codes "-1") ∷ []) ≡ Other (number (codes "-1")) ∷ [] }
+    ensures point { seen (number (codes "1.5") ∷ []) ≡ Number (Some (fin false 3 (negsuc 0))) ∷ [] }
 {}
 
 /// A double is the number that it is; what is no number, and what is infinite, is a text.

@@ -25,8 +25,7 @@ carried_context None = invalid_context
 carried_context (Some c) = c
 
 -- This context is that one, with its trace state or without. (W3C Trace Context, tracestate: that
--- it
--- may be left out; profile)
+-- it may be left out; profile)
 abbrev pub IsCarried : Context → Context → Type 0
 IsCarried c carried = (carried ≡ c) ⊎ (carried ≡ record c { state = [] })
 

@@ -1,6 +1,5 @@
 -- What balances: each span that ended was handed to the exporter, which delivered or lost it, or
--- was
--- dropped, or is left.
+-- was dropped, or is left.
 use Rattle.std.specs.Prelude.{◌≡◌, ℕ, ◌+◌, ◌-◌, ◌^◌, min}
 use Rattle.trace_demo.specs.declared.sums.Sums.{Sums}
 

@@ -1,7 +1,1 @@
 pub mod Causes
-pub mod Leading
-pub mod Looking
-pub mod Sweeping
-pub mod InTime
-pub mod Living
-pub mod Counting

@@ -1,11 +1,2 @@
 pub mod Failures
 pub mod Command
-pub mod Accepts
-pub mod Clocks
-pub mod Complaints
-pub mod Kinds
-pub mod Moments
-pub mod Waiting
-pub mod Serving
-pub mod Stages
-pub mod Crowds

@@ -3,7 +3,8 @@
 ghost use Rattle.std.specs.Prelude.{◌≡◌, ◌⊎◌};
 ghost use Rattle.trace_view.specs.Failures.{status_of};
 
-use std::io::{ErrorKind, Write};
+use http_peers::ListenFault;
+use std::io::Write;
 use std::net::SocketAddr;
 use thiserror::Error;
 
@@ -25,35 +26,6 @@ pub enum Failure {
     /// Memory was refused.
     #[error("out of memory; start with a smaller --keep-mb or --pending-mb, or with more memory")]
     OutOfMemory,
-}
-
-/// Why an address can't be listened at, and what to do.
-#[derive(Debug, Clone, Copy, PartialEq, Eq, Error)]
-pub enum ListenFault {
-    /// Another program listens there.
-    #[error("address in use; choose another --port")]
-    InUse,
-    /// Only the system's own programs may listen there.
-    #[error("permission denied; choose a --port above 1023")]
-    NotPermitted,
-    /// The machine has no such address.
-    #[error("this machine has no such address; choose another --address")]
-    NoAddress,
-    /// The system said something else.
-    #[error("{0}; choose another --address or --port")]
-    Other(ErrorKind),
-}
-
-impl ListenFault {
-    /// What the system's error says.
-    pub(crate) fn of(kind: ErrorKind) -> ListenFault {
-        match kind {
-            ErrorKind::AddrInUse => ListenFault::InUse,
-            ErrorKind::PermissionDenied => ListenFault::NotPermitted,
-            ErrorKind::AddrNotAvailable => ListenFault::NoAddress,
-            _ => ListenFault::Other(kind),
-        }
-    }
 }
 
 impl Failure {

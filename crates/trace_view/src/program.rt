@@ -4,15 +4,13 @@ ghost use Rattle.std.specs.Prelude.{◌≡◌, ◌≤◌, ◌*◌};
 ghost use Rattle.std.specs.Io.KnownBytes.{Keeps};
 
 use crate::args::ViewArgs;
-use crate::dated::Dated;
-use crate::failure::{Failure, ListenFault, tell};
+use crate::failure::{Failure, tell};
 use crate::report::report;
-use crate::{Complaints, End, Peers, Settings, StageTimes};
-use http_connection::Limits;
 use http_cors::{Cors, Origins};
+use http_peers::{Complaints, Dated, End, Peers, Settings, listen};
 use std::alloc::Global;
 use std::hash::RandomState;
-use std::io::{self, Write};
+use std::io::Write;
 use std::mem;
 use std::net::{Net, SocketAddr, TcpListener, TcpStream};
 use std::random::RandomSource;
@@ -21,20 +19,11 @@ use std::time::Clock;
 use trace_store::{TraceDigest, TraceStore, ViewSpan};
 use view_service::{Hosts, Pages, TraceKeeper, ViewService};
 
-/// How many connections are kept at most, at once. (profile)
-const CONNECTIONS: usize = 8_192;
-
 /// The bytes of a MiB.
 const MIB: u64 = 1_048_576;
 
 /// Where pages of other origins may post, if they may (OTLP Specification, "OTLP/HTTP Request").
 const EXPORT_PATH: &str = "/v1/traces";
-
-/// How long the rest of a refused request is read, in milliseconds. (profile)
-const DISCARD_MS: u64 = 2_000;
-
-/// How long a client's end is waited for after writing was shut down, in milliseconds. (profile)
-const CLOSE_MS: u64 = 1_000;
 
 /// The program `trace-view`, whose words are those of its command line, the program's name first.
 /// It receives and shows spans until it is stopped. Where the words ask for help or the version it
@@ -85,9 +74,10 @@ where
     W: Write,
     F: Write,
 {
-    let (listener, address) = match listen(&rt, SocketAddr::new(args.address, args.port)) {
+    let asked = SocketAddr::new(args.address, args.port);
+    let (listener, address) = match listen(&rt, asked) {
         Ok(listening) => listening,
-        Err(failure) => return failure,
+        Err(fault) => return Failure::Listen(asked, fault),
     };
     let origins = Origins::new(mem::replace(&mut args.origins, Vec::new(alloc)));
     let mut service = match service_of(&rt, alloc, pages, &args, address) {
@@ -97,7 +87,6 @@ where
     if let Err(failure) = print_address(alloc, address, output) {
         return failure;
     }
-    let listener = mio::net::TcpListener::from_std(listener);
     match Peers::new(rt, alloc, listener, settings_of(&args)) {
         Ok(peers) => serve(rt, alloc, peers, &mut service, faults),
         Err(end) => failure_of(end),
@@ -189,45 +178,12 @@ fn settings_of(args: &ViewArgs) -> Settings
     ensures pending { args.now.pending_mb ≤ 1_048_576
         → result.pending ≡ args.now.pending_mb * 1_048_576 }
 {
-    let request_ms = args.request_seconds.saturating_mul(1_000);
-    Settings {
-        most: CONNECTIONS,
-        times: StageTimes {
-            idle_ms: args.idle_seconds.saturating_mul(1_000),
-            request_ms,
-            answer_ms: request_ms,
-            discard_ms: DISCARD_MS,
-            close_ms: CLOSE_MS,
-        },
-        limits: Limits {
-            max_body: max_body_of(args),
-            ..Limits::default()
-        },
-        pending: args.pending_mb.saturating_mul(MIB),
-    }
-}
-
-/// Listens at this address, without waiting at a call. The address that was taken is with it, where
-/// port 0 was a free one.
-fn listen<R>(rt: &R, address: SocketAddr) -> Result<(TcpListener, SocketAddr), Failure>
-where
-    R: Net<Listener = TcpListener, Stream = TcpStream>,
-{
-    match bind(rt, address) {
-        Ok(listening) => Ok(listening),
-        Err(error) => Err(Failure::Listen(address, ListenFault::of(error.kind()))),
-    }
-}
-
-/// The same, with the system's error.
-fn bind<R>(rt: &R, address: SocketAddr) -> io::Result<(TcpListener, SocketAddr)>
-where
-    R: Net<Listener = TcpListener, Stream = TcpStream>,
-{
-    let listener = TcpListener::bind(rt, address)?;
-    listener.set_nonblocking(true)?;
-    let address = listener.local_addr()?;
-    Ok((listener, address))
+    Settings::new(
+        args.idle_seconds.saturating_mul(1_000),
+        args.request_seconds.saturating_mul(1_000),
+        max_body_of(args),
+        args.pending_mb.saturating_mul(MIB),
+    )
 }
 
 /// How much is kept.

@@ -15,9 +15,8 @@ use Rattle.otel_settings.specs.declared.sampler.SamplerName.TheVariants.{AlwaysO
 abbrev pub sampler_of : Bool → NamedSampler → NamedSampler
 sampler_of is_off sampler = if is_off then record sampler { name = AlwaysOff } else sampler
 
--- a service's setup: what its spans are made with, how they wait, where they go, in which
--- coding and in which time,
--- what of the settings can't be used, and whether tracing is off
+-- a service's setup: what its spans are made with, how they wait, where they go, in which coding
+-- and in which time, what of the settings can't be used, and whether tracing is off
 pub record Setup : Type 0 where
   pub provider : ProviderWith NamedSampler
   pub queue : DeskConfig

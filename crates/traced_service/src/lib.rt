@@ -7,6 +7,7 @@ mod counts;
 mod deferred;
 mod log;
 mod setup;
+mod source;
 mod work;
 
 pub use counts::TracedDone;

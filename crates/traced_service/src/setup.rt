@@ -17,6 +17,7 @@ ghost use Rattle.traced_service.specs.Setups.{IsOf, sampler_of, setup_of};
 
 use crate::counts::TracedDone;
 use crate::log::{ServiceLog, WorkerNames};
+use crate::source::SpanSource;
 use crate::work::{Traced, TracedWork};
 use batch_processor::BatchConfig;
 use batch_service::{StartFault, refusal_of, serve};
@@ -39,14 +40,13 @@ use std::random::RandomSource;
 use std::sync::{Arc, Wait};
 use std::thread::Threads;
 use std::time::Clock;
-use trace_api::Provider;
 
 /// What a traced service is started with: what its spans are made with, where they go, and how they
 /// wait.
 #[derive(Drop)]
 pub struct ServiceSetup {
     is_off: bool,
-    provider: Provider<NamedSampler>,
+    provider: SpanSource,
     scope: Arc<Scope>,
     target: Target,
     coding: Coding,
@@ -98,7 +98,7 @@ impl ServiceSetup {
         let sampler = sampler_of(settings.disabled, settings.sampler);
         Ok(ServiceSetup {
             is_off: settings.disabled,
-            provider: Provider::new(sampler, Arc::new(alloc, resource)?, settings.limits),
+            provider: SpanSource::new(sampler, Arc::new(alloc, resource)?, settings.limits),
             scope: Arc::new(alloc, Scope::named(alloc, name)?)?,
             target: settings.target,
             coding: settings.coding,
@@ -163,6 +163,9 @@ impl ServiceSetup {
     /// goes to the log: first for what the settings have that can't be used, and then for each span
     /// that isn't delivered.
     ///
+    /// Each thread makes its spans with a provider and a scope of its own, copies of the service's;
+    /// one for which memory is refused shares the service's.
+    ///
     /// Threads that drop spans write their lines, 64 at a time, and wait for each other then (see
     /// [`NamingPass`](batch_service::NamingPass)); the worker writes the others between its turns.
     /// So a log that takes no line for a while holds up these threads.
@@ -210,7 +213,8 @@ impl ServiceSetup {
         let exporter = HttpExporter::new(alloc, rt, target, timeout_ms);
         let exporter = KeptExporter::new(exporter.reading_after_a_stop());
         let exporter = CompressedExporter::new(alloc, exporter, coding);
-        let tracer = provider.tracer(scope);
+        let shared = provider.shared()?;
+        let tracer = shared.tracer(Arc::try_clone(&scope)?);
         let names = WorkerNames {
             log: log.try_clone()?,
             rt,
@@ -218,6 +222,8 @@ impl ServiceSetup {
         let traced = Traced {
             rt,
             alloc,
+            provider,
+            scope,
             tracer: &tracer,
             seed,
             log,

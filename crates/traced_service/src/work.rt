@@ -1,18 +1,23 @@
 //! The work of a traced service's threads.
+ghost use Rattle.std.specs.Prelude.{◌≡◌, IfOk};
+ghost use Rattle.std.specs.Arc.{arc_value};
+ghost use Rattle.otlp_span.specs.Parts.{scope_view};
 
 use crate::log::{ServiceLog, ThreadNames};
+use crate::source::{SpanSource, copy_scope};
 use batch_processor::SystemClock;
 use batch_service::{NamingPass, ServicePass, Work};
 use otel_settings::NamedSampler;
-use otlp_span::SpanData;
+use otlp_ids::OutOfMemory;
+use otlp_span::{Scope, SpanData};
 use rand::rngs::StdRng;
 use rand_core::SeedableRng;
 use std::alloc::{AllocError, Global};
 use std::io::Write;
-use std::sync::Wait;
+use std::sync::{Arc, Wait};
 use std::time;
 use thread_tracer::{Refused, ThreadTrace, ThreadTracer};
-use trace_api::{EndPass, Tracer};
+use trace_api::{EndPass, Provider, Tracer};
 
 /// What each thread of a traced service does.
 pub trait TracedWork {
@@ -37,6 +42,10 @@ pub struct ThreadDone<T> {
 pub(crate) struct Traced<'t, 'w, R, L: Write + Drop, W> {
     pub(crate) rt: R,
     pub(crate) alloc: Global,
+    /// What each thread copies, so that no other counts in the same memory what its spans share.
+    pub(crate) provider: SpanSource,
+    pub(crate) scope: Arc<Scope>,
+    /// That of threads that have no memory for copies.
     pub(crate) tracer: &'t Tracer<'t, NamedSampler>,
     /// What the threads' generators are seeded with, each with its number.
     pub(crate) seed: u64,
@@ -50,11 +59,39 @@ where
     L: Write + Drop,
     W: TracedWork,
 {
+    /// A provider and a scope for a thread alone, equal to the service's.
+    ///
+    /// # Errors
+    ///
+    /// `OutOfMemory` where memory was refused.
+    fn copied(&self) -> Result<(Provider<NamedSampler>, Arc<Scope>), OutOfMemory>
+        ensures provider { IfOk result (λ made. made.0 ≡ self.now.provider) }
+        ensures scope { IfOk result
+            (λ made. scope_view (arc_value made.1) ≡ scope_view (arc_value self.now.scope)) }
+    {
+        let provider = self.provider.copied(self.alloc)?;
+        let scope = Arc::new(self.alloc, copy_scope(self.alloc, &self.scope)?)?;
+        Ok((provider, scope))
+    }
+
     /// Does the work of the thread with this number, whose spans end on the pass.
     fn trace<P: EndPass<SpanData>>(&self, thread: usize, pass: &mut P) -> ThreadDone<W::Output> {
+        match self.copied() {
+            Ok((provider, scope)) => self.trace_by(&provider.tracer(scope), thread, pass),
+            Err(OutOfMemory) => self.trace_by(self.tracer, thread, pass),
+        }
+    }
+
+    /// The same, whose spans this tracer starts.
+    fn trace_by<P: EndPass<SpanData>>(
+        &self,
+        tracer: &Tracer<'_, NamedSampler>,
+        thread: usize,
+        pass: &mut P,
+    ) -> ThreadDone<W::Output> {
         let rng = StdRng::seed_from_u64(self.seed.wrapping_add(thread as u64));
         let clock = SystemClock::new(self.rt);
-        let mut trace = ThreadTracer::new(self.tracer, self.alloc, rng, clock, pass);
+        let mut trace = ThreadTracer::new(tracer, self.alloc, rng, clock, pass);
         let output = self.work.work(thread, &mut trace);
         let refused = trace.refused();
         ThreadDone { output, refused }

@@ -5,7 +5,10 @@ use Rattle.std.proofs.Common.{◌∷◌, ◌++◌, append_assoc, fold, length, a
 use Rattle.std.proofs.Common.{get_or}
 use Rattle.std.proofs.lemmas.Bool.{true≢false}
 use Rattle.std.proofs.lemmas.List.{map-append}
-use Rattle.std.specs.Prelude.{⊤}
+use Rattle.std.specs.Prelude.{⊤, Option, cond}
+use Rattle.std.specs.Float.{Float, binary64}
+use Rattle.std.specs.List.{list_any}
+use Rattle.fast_float.specs.Parse.{parse_float}
 use Rattle.json.specs.Align.{is_good}
 use Rattle.json.specs.Lex.{Lexeme, token, comma, colon, lex, between, Place, fresh, after_value}
 use Rattle.json.specs.Lex.{after_comma, after_key, begins_colon, may_begin, may_close, if_allowed}
@@ -14,9 +17,12 @@ use Rattle.json.specs.Print.{ArePrintable, ArePrintableOrBad, IsPrintable, IsPri
 use Rattle.json.specs.Print.{print, print_from}
 use Rattle.json.specs.Token.{Token, begin_object, end_object, begin_array, end_array, key, string}
 use Rattle.json.specs.Token.{number, boolean, null, bad}
+use Rattle.std.specs.Str.{IsUtf8}
+use Rattle.std.proofs.lemmas.Str.{IsUtf8-append, IsUtf8-nil}
+use Rattle.json.proofs.Printed.Utf8.{IsUtf8-are_ascii}
 use Rattle.json.proofs.Numbered.{ArePrintableOrBad-tokens}
 use Rattle.json.proofs.Printed.Tokens.{tokens-print, print_from-append, ends_push}
-use Rattle.view_json.specs.Seen.{Seen, Other, braces, seen, seen_of}
+use Rattle.view_json.specs.Seen.{Seen, Other, Number, braces, is_mark, seen, seen_of}
 use Rattle.view_json.specs.Pieces.{IsJsonText, IsPieceBetween, comma_if}
 
 -- ---- after a bad token comes none
@@ -99,6 +105,11 @@ both_printable (t ∷ ts) us h k = (h.0, both_printable ts us h.1 k)
 
 -- ---- an object, by what is seen of it
 
+number_is : (b : Bool) (s : List ℕ) (x : Option Float) (u : Token)
+    → cond b (Number x) (Other (number s)) ≡ Other u → number s ≡ u
+number_is true s x u e = cc
+number_is false s x u e = cc
+
 token_is : (t u : Token) → seen_of t ≡ Other u → t ≡ u
 token_is begin_object u e = cc
 token_is end_object u e = cc
@@ -106,7 +117,7 @@ token_is begin_array u e = cc
 token_is end_array u e = cc
 token_is (key s) u e = cc
 token_is (string s) u e = cc
-token_is (number s) u e = cc
+token_is (number s) u e = number_is (list_any is_mark s) s (parse_float binary64 s) u e
 token_is (boolean b) u e = cc
 token_is null u e = cc
 token_is bad u e = cc
@@ -138,6 +149,10 @@ some_bytes ts m is =
     let begin = first_is ts begin_object (m ++ Other end_object ∷ []) is in
     subst (λ l. 0 < length (print l)) (sym begin.1) (omega arith)
 
+comma_utf8 : (is_after : Bool) → IsUtf8 (comma_if is_after)
+comma_utf8 true = IsUtf8-are_ascii (44 ∷ []) refl
+comma_utf8 false = IsUtf8-nil
+
 -- what a writer wrote that a reader sees as an object
 module _ (is_after : Bool) (ts : List Token) (m : List Seen) (back : tokens (print ts) ≡ ts)
     (is : seen ts ≡ braces m) where
@@ -159,10 +174,10 @@ module _ (is_after : Bool) (ts : List Token) (m : List Seen) (back : tokens (pri
       ∙ ap (λ l. comma_if is_after ++ print l) (sym begin.1)
 
   -- An object, after a comma where one is due, is a piece of a text of more of them.
-  pub object_piece : (left : List Seen)
+  pub object_piece : IsUtf8 (print ts) → (left : List Seen)
       → IsPieceBetween (IsJsonText is_after (braces m ++ left)) (IsJsonText true left)
       (comma_if is_after ++ print ts)
-  object_piece left more h = record {
+  object_piece utf8 left more h = record {
     tokens = ts ++ h.tokens;
     are_printable = both_printable ts h.tokens can_be_printed h.are_printable;
     printed =
@@ -173,6 +188,9 @@ module _ (is_after : Bool) (ts : List Token) (m : List Seen) (back : tokens (pri
     seen_is =
         map-append seen_of ts h.tokens ∙ ap (λ l. l ++ seen h.tokens) is
         ∙ ap (λ l. braces m ++ l) h.seen_is;
+    utf8 =
+        IsUtf8-append (comma_if is_after ++ print ts) more
+        (IsUtf8-append (comma_if is_after) (print ts) (comma_utf8 is_after) utf8) h.utf8;
   }
 
 then_piece : (P Q R : List ℕ → Type 0) (a b : List ℕ) → IsPieceBetween P Q a → IsPieceBetween Q R b

@@ -6,7 +6,10 @@ use Rattle.std.proofs.Math.ListN.{get_or, drop_of_length-le}
 use Rattle.std.proofs.lemmas.Bool.{lt-ltb}
 use Rattle.std.proofs.lemmas.List.{drop_more}
 use Rattle.std.specs.List.{flat_map}
+use Rattle.std.specs.Str.{IsUtf8}
+use Rattle.std.proofs.lemmas.Str.{IsUtf8-append, IsUtf8-nil}
 use Rattle.std.specs.declared.sync.Arc.{Arc}
+use Rattle.json.proofs.Printed.Utf8.{IsUtf8-are_ascii}
 use Rattle.json.specs.Lex.{tokens}
 use Rattle.json.specs.Print.{ArePrintable, escape_byte, print, print_from}
 use Rattle.json.specs.Token.{Token, begin_array, begin_object, end_array, end_object, key}
@@ -31,6 +34,9 @@ head_then left more h = record {
   seen_is =
       ap (λ l. Other begin_object ∷ Other (key (codes "resourceSpans")) ∷ Other begin_array ∷ l)
       h.seen_is;
+  utf8 =
+      IsUtf8-append (codes "{\"resourceSpans\":[") more
+      (IsUtf8-are_ascii (codes "{\"resourceSpans\":[") refl) h.utf8;
 }
 
 -- what is after them
@@ -43,12 +49,14 @@ tail_then true more h = record {
   are_printable = (tt, (tt, h.are_printable));
   printed = ap (λ l. codes "]}" ++ l) h.printed;
   seen_is = ap (λ l. Other end_array ∷ Other end_object ∷ l) h.seen_is;
+  utf8 = IsUtf8-append (codes "]}") more (IsUtf8-are_ascii (codes "]}") refl) h.utf8;
 }
 tail_then false more h = record {
   tokens = end_array ∷ end_object ∷ h.tokens;
   are_printable = (tt, (tt, h.are_printable));
   printed = ap (λ l. codes "]}" ++ l) h.printed;
   seen_is = ap (λ l. Other end_array ∷ Other end_object ∷ l) h.seen_is;
+  utf8 = IsUtf8-append (codes "]}") more (IsUtf8-are_ascii (codes "]}") refl) h.utf8;
 }
 
 module _ {A : Type 0} (spans : List (Arc (ViewSpan A) A)) where
@@ -65,10 +73,11 @@ module _ {A : Type 0} (spans : List (Arc (ViewSpan A) A)) where
   -- The text of a span, after a comma where one is due, is the piece of that span.
   pub span_piece : (at : ℕ) (kept : Arc (ViewSpan A) A) (ts : List Token) → at < length spans
       → kept ≡ get_or spans at kept → tokens (print ts) ≡ ts → seen ts ≡ kept_seen kept
+      → IsUtf8 (print ts)
       → IsPieceBetween (IsLeft spans (Spans at)) (IsLeft spans (Spans (at + 1)))
       (comma_if (nat_lt 0 at) ++ print ts)
   unfolding resource_spans_seen
-  span_piece at kept ts within is back sees more h =
+  span_piece at kept ts within is back sees utf8 more h =
       let left = left_seen spans (Spans (at + 1)) in
       let after : nat_lt 0 (at + 1) ≡ true = lt-ltb 0 (at + 1) (omega arith) in
       let all : kept_seen kept ++ left ≡ left_seen spans (Spans at) =
@@ -78,7 +87,7 @@ module _ {A : Type 0} (spans : List (Arc (ViewSpan A) A)) where
       (ap (λ y. y ∷ drop (at + 1) spans) is ∙ sym (drop_more spans at kept within)) in
       subst
       (λ what. IsJsonText (nat_lt 0 at) what ((comma_if (nat_lt 0 at) ++ print ts) ++ more)) all
-      (object_piece (nat_lt 0 at) ts _ back sees left more
+      (object_piece (nat_lt 0 at) ts _ back sees utf8 left more
       (subst (λ b. IsJsonText b left more) after h))
 
   -- After the last span the rest of the text is what closes the list and the object.
@@ -92,7 +101,13 @@ module _ {A : Type 0} (spans : List (Arc (ViewSpan A) A)) where
 
   nothing_left : IsLeft spans End []
   unfolding ArePrintable print_from
-  nothing_left = record { tokens = []; are_printable = tt; printed = refl; seen_is = refl }
+  nothing_left = record {
+    tokens = [];
+    are_printable = tt;
+    printed = refl;
+    seen_is = refl;
+    utf8 = IsUtf8-nil;
+  }
 
   -- At the end nothing is left to be written.
   pub end_left : (stage : Stage) → is_end stage ≡ true → IsLeft spans stage []

@@ -1,6 +1,7 @@
 -- What is left of a trace's JSON that is written in pieces.
 use Rattle.std.specs.Prelude.{◌≡◌, ℕ, Bool, true, false, cond, nat_lt, List, [], ◌∷◌, ◌++◌, drop}
 use Rattle.std.specs.List.{flat_map}
+use Rattle.std.specs.Str.{IsUtf8}
 use Rattle.std.specs.declared.sync.Arc.{Arc}
 use Rattle.json.specs.Print.{ArePrintable, print_from}
 use Rattle.json.specs.Token.{Token, end_array, end_object}
@@ -12,12 +13,14 @@ use Rattle.view_json.specs.declared.pieces.Stage.TheVariants.{Head, Spans, End}
 use Rattle.view_json.specs.declared.pieces.TraceJson.{TraceJson}
 
 -- A text of JSON of which a reader sees this: its tokens, printed with no space. A comma is before
--- the first token if that begins a value, and a value has ended before the text.
+-- the first token if that begins a value, and a value has ended before the text. It is UTF-8
+-- (RFC 8259, section 8.1).
 pub record IsJsonText (is_after : Bool) (what : List Seen) (text : List ℕ) : Type 0 where
   pub tokens : List Token
   pub are_printable : ArePrintable tokens
   pub printed : text ≡ print_from is_after tokens
   pub seen_is : seen tokens ≡ what
+  pub utf8 : IsUtf8 text
 
 -- a piece: with any text that may be left after it, it is a text that may be left before it
 abbrev pub IsPieceBetween : (List ℕ → Type 0) → (List ℕ → Type 0) → List ℕ → Type 0

@@ -1,6 +1,9 @@
--- What a reader sees of a JSON text: its tokens, where a number is the double that it reads as.
-use Rattle.std.specs.Prelude.{ℕ, ℤ, List, [], ◌∷◌, ◌++◌, map, Option, Some, codes, decimal}
+-- What a reader sees of a JSON text: its tokens, where a number with a point or an exponent is the
+-- double that it reads as.
+use Rattle.std.specs.Prelude.{ℕ, ℤ, List, [], ◌∷◌, ◌++◌, map, Option, Some, codes, decimal, Bool}
+use Rattle.std.specs.Prelude.{◌||◌, ◌==◌, if◌then◌else◌}
 use Rattle.std.specs.Fmt.{signed_decimal}
+use Rattle.std.specs.List.{list_any}
 use Rattle.std.specs.Float.{Float, binary64}
 use Rattle.std.specs.Float.Ieee.{fin, inf, nan}
 use Rattle.std.specs.Prelude.{true, false}
@@ -13,6 +16,16 @@ pub data Seen : Type 0 where
   Other : Token → Seen
   Number : Option Float → Seen
 
+-- whether a sign of a number is a point (46), or the `e` (101) or `E` (69) of an exponent
+abbrev pub is_mark : ℕ → Bool
+is_mark b = (b == 46) || (b == 101) || (b == 69)
+
+-- A number: its digits, or the double that it reads as where it has a point or an exponent. So a
+-- whole number that is written with digits alone is exactly that number.
+abbrev pub number_seen : List ℕ → Seen
+number_seen s =
+    if list_any is_mark s then Number (parse_float binary64 s) else Other (number s)
+
 -- a token
 abbrev pub seen_of : Token → Seen
 seen_of begin_object = Other begin_object
@@ -21,7 +34,7 @@ seen_of begin_array = Other begin_array
 seen_of end_array = Other end_array
 seen_of (key s) = Other (key s)
 seen_of (string s) = Other (string s)
-seen_of (number s) = Number (parse_float binary64 s)
+seen_of (number s) = number_seen s
 seen_of (boolean b) = Other (boolean b)
 seen_of null = Other null
 seen_of bad = Other bad

@@ -1,4 +1,4 @@
-//! Members of objects.
+//! Members of objects of JSON.
 
 ghost use Rattle.std.specs.Prelude.{◌≡◌, [], ◌∷◌, ◌++◌, OnOk};
 ghost use Rattle.std.specs.Fmt.{signed_decimal};
@@ -10,7 +10,11 @@ use json::Writer;
 use std::alloc::{AllocError, Allocator};
 
 /// Begins an object.
-pub(crate) fn begin<A: Allocator>(out: &mut Writer<A>) -> Result<(), AllocError>
+///
+/// # Errors
+///
+/// `AllocError` where the text could not be stored. It may then have been written in part.
+pub fn begin<A: Allocator>(out: &mut Writer<A>) -> Result<(), AllocError>
     ensures tokens { OnOk result (out.new.tokens ≡ out.old.tokens ++ begin_object ∷ []) }
     ensures seen { OnOk result (seen out.new.tokens
         ≡ seen out.old.tokens ++ Other begin_object ∷ []) }
@@ -20,7 +24,11 @@ pub(crate) fn begin<A: Allocator>(out: &mut Writer<A>) -> Result<(), AllocError>
 }
 
 /// Ends an object.
-pub(crate) fn end<A: Allocator>(out: &mut Writer<A>) -> Result<(), AllocError>
+///
+/// # Errors
+///
+/// `AllocError` where the text could not be stored. It may then have been written in part.
+pub fn end<A: Allocator>(out: &mut Writer<A>) -> Result<(), AllocError>
     ensures tokens { OnOk result (out.new.tokens ≡ out.old.tokens ++ end_object ∷ []) }
     ensures seen { OnOk result (seen out.new.tokens
         ≡ seen out.old.tokens ++ Other end_object ∷ []) }
@@ -30,7 +38,11 @@ pub(crate) fn end<A: Allocator>(out: &mut Writer<A>) -> Result<(), AllocError>
 }
 
 /// Begins a member whose value is an object.
-pub(crate) fn begin_member<A: Allocator>(out: &mut Writer<A>, name: &str) -> Result<(), AllocError>
+///
+/// # Errors
+///
+/// `AllocError` where the text could not be stored. It may then have been written in part.
+pub fn begin_member<A: Allocator>(out: &mut Writer<A>, name: &str) -> Result<(), AllocError>
     ensures tokens { OnOk result (out.new.tokens
         ≡ out.old.tokens ++ key name.now ∷ begin_object ∷ []) }
     ensures seen { OnOk result (seen out.new.tokens
@@ -42,7 +54,11 @@ pub(crate) fn begin_member<A: Allocator>(out: &mut Writer<A>, name: &str) -> Res
 }
 
 /// Begins a member whose value is an array.
-pub(crate) fn begin_list<A: Allocator>(out: &mut Writer<A>, name: &str) -> Result<(), AllocError>
+///
+/// # Errors
+///
+/// `AllocError` where the text could not be stored. It may then have been written in part.
+pub fn begin_list<A: Allocator>(out: &mut Writer<A>, name: &str) -> Result<(), AllocError>
     ensures tokens { OnOk result (out.new.tokens
         ≡ out.old.tokens ++ key name.now ∷ begin_array ∷ []) }
     ensures seen { OnOk result (seen out.new.tokens
@@ -54,7 +70,11 @@ pub(crate) fn begin_list<A: Allocator>(out: &mut Writer<A>, name: &str) -> Resul
 }
 
 /// Ends an array.
-pub(crate) fn end_list<A: Allocator>(out: &mut Writer<A>) -> Result<(), AllocError>
+///
+/// # Errors
+///
+/// `AllocError` where the text could not be stored. It may then have been written in part.
+pub fn end_list<A: Allocator>(out: &mut Writer<A>) -> Result<(), AllocError>
     ensures tokens { OnOk result (out.new.tokens ≡ out.old.tokens ++ end_array ∷ []) }
     ensures seen { OnOk result (seen out.new.tokens
         ≡ seen out.old.tokens ++ Other end_array ∷ []) }
@@ -73,7 +93,11 @@ pub(crate) fn push_key<A: Allocator>(out: &mut Writer<A>, name: &str) -> Result<
 }
 
 /// Writes a member whose value is a text.
-pub(crate) fn push_text<A: Allocator>(
+///
+/// # Errors
+///
+/// `AllocError` where the text could not be stored. It may then have been written in part.
+pub fn push_text<A: Allocator>(
     out: &mut Writer<A>,
     name: &str,
     text: &str,
@@ -89,7 +113,11 @@ pub(crate) fn push_text<A: Allocator>(
 }
 
 /// Writes a member whose value is bytes in hexadecimal.
-pub(crate) fn push_hex<A: Allocator + Copy>(
+///
+/// # Errors
+///
+/// `AllocError` where the text could not be stored. It may then have been written in part.
+pub fn push_hex<A: Allocator + Copy>(
     alloc: A,
     out: &mut Writer<A>,
     name: &str,
@@ -122,7 +150,11 @@ pub(crate) fn push_long<A: Allocator>(
 }
 
 /// Writes a member whose value is a number.
-pub(crate) fn push_number<A: Allocator>(
+///
+/// # Errors
+///
+/// `AllocError` where the text could not be stored. It may then have been written in part.
+pub fn push_number<A: Allocator>(
     out: &mut Writer<A>,
     name: &str,
     number: u64,

@@ -56,9 +56,14 @@ fn push_sample<A: Allocator>(out: &mut String<A>, name: &str, number: u64) -> Re
     out.push('\n')
 }
 
-/// Appends a metric of one number.
+/// Appends a metric of one number: what it is, its type, which is `counter` or `gauge`, and the
+/// number (Prometheus, "Exposition formats", text format 0.0.4).
+///
+/// # Errors
+///
+/// `AllocError` where the text could not be stored. It may then have been appended in part.
 #[tactic(auto, unfolding(crate::specs::Metrics::metric_text))]
-fn push_metric<A: Allocator>(
+pub fn push_metric<A: Allocator>(
     out: &mut String<A>,
     name: &str,
     help: &str,

@@ -5,7 +5,9 @@ ghost use Rattle.std.specs.Prelude.{IfOk, OnOk, OnErr, vec_len};
 ghost use Rattle.json.specs.Lex.{tokens};
 ghost use Rattle.json.specs.Print.{print};
 ghost use Rattle.json.specs.Token.{Token};
-ghost use Rattle.view_json.specs.Pieces.{IsLeft, IsPieceBetween, StillWrites, comma_if, is_end};
+ghost use Rattle.std.specs.Str.{IsUtf8};
+ghost use Rattle.view_json.specs.Pieces.{IsJsonText, IsLeft, IsPieceBetween, StillWrites};
+ghost use Rattle.view_json.specs.Pieces.{comma_if, is_end};
 ghost use Rattle.view_json.specs.Seen.{seen};
 ghost use Rattle.view_json.specs.Spans.{kept_seen, trace_seen};
 ghost use Rattle.view_json.specs.declared.pieces.Stage.TheVariants as stages;
@@ -59,7 +61,8 @@ fn object_of<A: Allocator + Copy>(
     kept: &Arc<ViewSpan<A>, A>,
 ) -> Result<Vec<u8, A>, AllocError>
     ensures { IfOk result (λ text. (object : List Token) × (text.items ≡ print object)
-        × (tokens (print object) ≡ object) × (seen object ≡ kept_seen kept.now)) }
+        × (tokens (print object) ≡ object) × (seen object ≡ kept_seen kept.now)
+        × IsUtf8 (print object)) }
 {
     let mut out = Writer::new(Vec::with_capacity(alloc, OBJECT)?);
     push_resource_spans(alloc, &mut out, &kept.resource, &kept.scope, &kept.span)?;
@@ -135,6 +138,8 @@ impl<A: Allocator + Copy> TraceJson<A> {
     pub fn new(alloc: A, spans: Vec<Arc<ViewSpan<A>, A>, A>) -> TraceJson<A>
         ensures json { (text : List ℕ) → StillWrites result text
             → seen (tokens text) ≡ trace_seen spans.items }
+        ensures text { (text : List ℕ) → StillWrites result text
+            → IsJsonText false (trace_seen spans.items) text }
     {
         TraceJson {
             alloc,

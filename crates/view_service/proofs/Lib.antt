@@ -1,5 +1,3 @@
-mod Contents
 mod Received
-mod Refusals
 mod Strips
 mod Zips

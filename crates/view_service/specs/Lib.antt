@@ -1,4 +1,3 @@
-pub mod Contents
 pub mod Keepers
 pub mod Receives
 pub mod Routes

@@ -1,17 +1,16 @@
 -- What the service does for a connection.
-use Rattle.std.specs.Prelude.{◌≡◌, ℕ, ◌==◌, ◌||◌, Bool, true, false, not, if◌then◌else◌, List}
-use Rattle.std.specs.Prelude.{codes, bytes_eq, nat_lt, Option, Some, None, unwrap_or}
+use Rattle.std.specs.Prelude.{◌≡◌, ℕ, true, false, List, Option, Some, None}
 use Rattle.http.specs.Request.{head_of}
 use Rattle.http.specs.declared.request.Parts.{Parts as Head}
 use Rattle.http.specs.declared.request.Request.{Request as HttpRequest}
 use Rattle.http_connection.specs.Turns.{Turn, Admitted, Rejected, Answered, Refused}
-use Rattle.http_connection.specs.declared.limits.Refusal.{Refusal}
-use Rattle.http_connection.specs.declared.limits.Refusal.TheVariants as refusals
 use Rattle.http_server.specs.declared.response.Response.{Response}
 use Rattle.http_uri.specs.Uri.{uri_path}
 use Rattle.http_connection.specs.Denials.{IsDenial, IsOptions}
 use Rattle.http_connection.specs.Hosts.{allows_head}
-use Rattle.http_connection.specs.Requests.{denial_format, is_export_path}
+use Rattle.http_connection.specs.Judged.{denial_by, head_denial}
+use Rattle.http_connection.specs.Requests.{asks_for_methods, denial_format, is_export_of_traces}
+use Rattle.http_connection.specs.Requests.{is_export_path}
 use Rattle.http_connection.specs.Tallies.{CountsAnswer, Tally}
 use Rattle.http_connection.specs.declared.reply.denial.Denial.{Denial}
 use Rattle.http_connection.specs.declared.reply.denial.Denial.TheVariants as denials
@@ -47,33 +46,6 @@ pub record HasAnswered {K P : Type 0} (old new : ViewService K P) (status : ℕ)
   pub hosts : hosts_of new ≡ hosts_of old
   pub pages : pages_of new ≡ pages_of old
   pub max_body : max_body_of new ≡ max_body_of old
-
--- Why a request is refused by its head, where this many bytes may still be pending: it is for
--- another host, or its body, if it says how long that is, is longer; or nothing more may be
--- pending.
-abbrev pub head_denial : List (List ℕ) → Head → Option ℕ → ℕ → Option Denial
-head_denial hosts head body room =
-    if not (allows_head hosts head) then Some denials.Host
-    else if room == 0 || nat_lt room (unwrap_or body 0) then Some denials.NoRoom
-    else None
-
--- why the connection refuses a request (RFC 9110, section 15; RFC 6585, section 5)
-abbrev pub denial_by : Refusal → Denial
-denial_by refusals.BadRequest = denials.BadRequest
-denial_by refusals.UriTooLong = denials.UriTooLong
-denial_by refusals.FieldsTooLarge = denials.FieldsTooLarge
-denial_by refusals.BodyTooLarge = denials.BodyTooLarge
-denial_by refusals.NoRoom = denials.NoRoom
-denial_by refusals.UnknownCoding = denials.UnknownCoding
-denial_by refusals.UnknownVersion = denials.UnknownVersion
-
--- a request for the path to which traces are posted (OTLP Specification, OTLP/HTTP Request)
-abbrev pub is_export_of_traces : HttpRequest (List ℕ) → Bool
-is_export_of_traces request = bytes_eq (uri_path (head_of request).uri) (codes "/v1/traces")
-
--- a request that asks which methods there are (RFC 9110, section 9.3.7)
-abbrev pub asks_for_methods : HttpRequest (List ℕ) → Bool
-asks_for_methods request = bytes_eq (head_of request).method (codes "OPTIONS")
 
 module _ {A K P R S : Type 0} (keeps : Keeping A K) (lacks_room : Lacking A K)
     (gives_up : Giving K) (lends : Lending K S) (draws : Drawing P S) (writes : Writing R) where

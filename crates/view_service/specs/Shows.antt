@@ -3,11 +3,10 @@
 use Rattle.std.specs.Prelude.{◌≡◌, ◌≢◌, ℕ, Bool, true, false, if◌then◌else◌, List, [], codes}
 use Rattle.std.specs.Prelude.{bytes_eq, Option, Some, None}
 use Rattle.http.specs.declared.request.Parts.{Parts as Head}
-use Rattle.http_server.specs.Response.{IsResponse}
 use Rattle.http_server.specs.declared.response.Response.{Response}
 use Rattle.http_uri.specs.Uri.{uri_path}
 use Rattle.http_connection.specs.Denials.{IsDenial}
-use Rattle.http_connection.specs.Formats.{format_fields}
+use Rattle.http_connection.specs.Pages.{IsPage, is_read}
 use Rattle.http_connection.specs.Requests.{denial_format}
 use Rattle.http_connection.specs.declared.reply.denial.Denial.{Denial}
 use Rattle.http_connection.specs.declared.reply.denial.Denial.TheVariants as denials
@@ -22,13 +21,6 @@ use Rattle.view_service.specs.declared.show.Shown.{Shown}
 use Rattle.view_service.specs.declared.show.Shown.TheVariants as outcomes
 use Rattle.trace_store.specs.Keys.{trace_key}
 
--- the methods that pages have
-unfoldable pub is_read : List ℕ → Bool
-is_read method =
-    if bytes_eq method (codes "GET") then true
-    else if bytes_eq method (codes "HEAD") then true
-    else false
-
 -- what a page is written in
 abbrev pub format_of : Route → Format
 format_of routes.Style = formats.Css
@@ -40,10 +32,6 @@ format_of routes.ApiTraces = formats.Json
 format_of (routes.ApiTrace trace) = formats.Json
 format_of routes.ApiStats = formats.Json
 format_of _ = formats.Html
-
--- the answer has this status, this format and this body, or this beginning of a body
-abbrev pub IsPage : ℕ → Format → List ℕ → Response → Type 0
-IsPage code format body response = IsResponse code (format_fields format) body response
 
 -- it may be that nothing is there
 abbrev pub may_be_missing : Route → Bool
@@ -104,8 +92,7 @@ page_denial route method = if is_read method then None else Some denials.PageMet
 module _ {K P R S : Type 0} (lends : Lending K S) (draws : Drawing P S) (writes : Writing R)
     (keeper : K) (pages : P) where
   -- A trace is shown where the keeper lends its spans: all that it lends, and no others. Whatever
-  -- is
-  -- written of it is that. It is missing where the keeper lends nothing.
+  -- is written of it is that. It is missing where the keeper lends nothing.
   abbrev pub ShowsTrace : TraceForm → ℕ → Shown → List ℕ → Option R → Type 0
   ShowsTrace form trace outcomes.Page body (Some rest) =
       (spans : List S) × lends keeper trace (Some spans) × (body ≡ [])

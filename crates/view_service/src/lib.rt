@@ -6,7 +6,6 @@
 //! `view_pages`, and the answers for programs of `view_json`.
 #![tactic(auto)]
 
-mod content;
 mod counts;
 mod filter;
 mod keeper;

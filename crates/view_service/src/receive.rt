@@ -1,48 +1,25 @@
 //! Requests to receive spans.
 
-ghost use Rattle.std.specs.Prelude.{◌≡◌, ◌<◌, ◌&&◌, All, IfErr, IfOk, IsErrOf, OnErr, OnOk};
-ghost use Rattle.std.specs.Prelude.{is_some, length};
+ghost use Rattle.std.specs.Prelude.{◌≡◌, ◌<◌, All, IfErr, IfOk, IsErrOf, OnErr, OnOk, length};
 ghost use Rattle.http_server.specs.Response.{IsBlank};
-ghost use Rattle.otlp_serve.specs.Answers.{refusal_with_gzip};
 ghost use Rattle.http_connection.specs.Denials.{IsDenial};
-ghost use Rattle.view_service.specs.Contents.{coding_in, is_json_post};
-ghost use Rattle.view_service.specs.Receives.{AnswersContent, AnswersExport, HasParts, IsUnread};
-ghost use Rattle.view_service.specs.Receives.{denial_by, is_above, post_of, refusal_of_post};
-ghost use Rattle.view_service.specs.Receives.{size_of_content, unless_type, unread_by};
+ghost use Rattle.post_body.specs.Reads.{IsUnread, size_of_content};
+ghost use Rattle.view_service.specs.Receives.{AnswersContent, AnswersExport, HasParts};
 
-use crate::content::{Undecoded, decode};
 use crate::keeper::TraceKeeper;
 use bytes::Bytes;
 use http::Request;
-use http_connection::reply::{Denial, Format, denial_format, fill_denial, fill_taken, is_json};
+use http_connection::reply::{
+    Denial, Format, denial_format, denial_response, fill_denial, fill_taken,
+};
 use http_server::Response;
-use otlp_read::{ReadFault, read_request};
-use otlp_serve::{PostReply, ReplyStatus, coding_of, refusal_with_gzip};
+use post_body::{Undecoded, Unread, content_in, is_above, read_content, size_of_content};
 use std::alloc::{AllocError, Global};
 use std::sync::Arc;
-use trace_store::{InsertFault, Part, TraceDigest, ViewSpan, request_size, take_apart};
+use trace_store::{InsertFault, Part, TraceDigest, ViewSpan, take_apart};
 
 /// The spans of a request, by their traces.
 type Parts = Vec<Part<Arc<ViewSpan>, Global>>;
-
-/// Why a body isn't read.
-#[derive(Clone, Copy, Debug, PartialEq, Eq)]
-enum Unread {
-    /// It has a fault.
-    Fault,
-    /// Memory was refused.
-    OutOfMemory,
-}
-
-/// Why a body isn't read that has this fault.
-fn unread_by(fault: ReadFault) -> Unread
-    ensures { result ≡ unread_by fault }
-{
-    match fault {
-        ReadFault::OutOfMemory => Unread::OutOfMemory,
-        ReadFault::Wire(_) | ReadFault::BadUtf8 | ReadFault::TooDeep => Unread::Fault,
-    }
-}
 
 /// The parts of what a content means, or why it isn't read.
 fn read_parts(alloc: Global, content: &[u8]) -> Result<Parts, Unread>
@@ -50,90 +27,14 @@ fn read_parts(alloc: Global, content: &[u8]) -> Result<Parts, Unread>
     ensures some { IfOk result (λ parts. All (λ part. 0 < length part.1) parts.items) }
     ensures unread { IfErr result (IsUnread content.now) }
 {
-    let request = match read_request(alloc, content) {
+    let request = match read_content(alloc, content) {
         Ok(request) => request,
-        Err(fault) => return Err(unread_by(fault)),
+        Err(why) => return Err(why),
     };
     match take_apart(alloc, request) {
         Ok(parts) => Ok(parts),
         Err(_) => Err(Unread::OutOfMemory),
     }
-}
-
-/// Why a request is refused that a collector answers so.
-fn denial_by(reply: PostReply) -> Denial
-    ensures { result ≡ denial_by reply }
-{
-    match reply.status {
-        ReplyStatus::NotFound => Denial::NoPath,
-        ReplyStatus::MethodNotAllowed => Denial::ExportMethod,
-        _ => Denial::MediaType,
-    }
-}
-
-/// The reply, if it isn't for the type or the coding of a body alone.
-fn unless_type(reply: Option<PostReply>) -> Option<PostReply>
-    ensures { result ≡ unless_type reply }
-{
-    match reply {
-        Some(
-            PostReply {
-                status: ReplyStatus::UnsupportedMediaType,
-                ..
-            },
-        ) => None,
-        _ => reply,
-    }
-}
-
-/// Whether a body is of JSON, in a coding that is read.
-fn is_json_in_coding(request: &Request<Bytes>) -> bool
-    ensures { result ≡ is_json_post (post_of request.now) && is_some (coding_in (post_of request.now)) }
-{
-    is_json(request) && coding_of(request.headers()).is_some()
-}
-
-/// What a request is answered that isn't for a collector that doesn't read JSON, if it isn't.
-fn binary_refusal(request: &Request<Bytes>) -> Option<PostReply>
-    ensures { result ≡ refusal_with_gzip (post_of request.now) }
-{
-    let (method, path) = (request.method().as_str(), request.uri().path());
-    refusal_with_gzip(method, path.as_bytes(), request.headers())
-}
-
-/// What a request is answered that isn't for a collector, if it isn't.
-fn refusal_in(request: &Request<Bytes>) -> Option<PostReply>
-    ensures { result ≡ refusal_of_post (post_of request.now) }
-{
-    let reply = binary_refusal(request);
-    if is_json_in_coding(request) {
-        unless_type(reply)
-    } else {
-        reply
-    }
-}
-
-/// How many bytes of memory the reading of a content takes.
-fn size_of_content(content: &[u8]) -> u64
-    ensures { result ≡ size_of_content content.now }
-{
-    request_size(content)
-}
-
-/// Whether the reading of a content takes more bytes of memory than may still be pending.
-fn is_above(content: &[u8], room: usize) -> bool
-    ensures { result ≡ is_above content.now room }
-{
-    size_of_content(content) > room as u64
-}
-
-/// An answer that refuses a request.
-fn refusal(alloc: Global, denial: Denial, format: Format) -> Result<Response, AllocError>
-    ensures { IfOk result (IsDenial denial format) }
-{
-    let mut response = Response::new(alloc);
-    fill_denial(&mut response, denial, format)?;
-    Ok(response)
 }
 
 /// Gives up the oldest traces for as many bytes as the reading of a content takes.
@@ -205,7 +106,7 @@ fn receive_content<K: TraceKeeper<Arc<ViewSpan>, TraceDigest>>(
     match keep_parts(keeper, content, parts) {
         Ok(()) => {}
         Err(InsertFault::TooLarge) => {
-            *response = refusal(alloc, Denial::TracesTooLarge, format)?;
+            *response = denial_response(alloc, Denial::TracesTooLarge, format)?;
         }
         Err(InsertFault::OutOfMemory) => *response = busy,
     }
@@ -236,12 +137,8 @@ pub(crate) fn receive<K: TraceKeeper<Arc<ViewSpan>, TraceDigest>>(
     ensures refused { OnErr result (keeper.new ≡ keeper.old) }
 {
     let format = denial_format(Some(request));
-    if let Some(reply) = refusal_in(request) {
-        fill_denial(response, denial_by(reply), format)?;
-        return Ok(());
-    }
-    let busy = refusal(alloc, Denial::OutOfMemory, format)?;
-    match decode(alloc, request, most) {
+    let busy = denial_response(alloc, Denial::OutOfMemory, format)?;
+    match content_in(alloc, request, most) {
         Ok(None) => {
             let content = request.body().as_slice();
             receive_content(alloc, keeper, content, room, format, busy, response)?;

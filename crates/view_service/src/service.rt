@@ -7,7 +7,6 @@ ghost use Rattle.http_server.specs.Response.{IsBlank};
 ghost use Rattle.http_uri.specs.Uri.{uri_path};
 ghost use Rattle.http_connection.specs.Denials.{IsDenial};
 ghost use Rattle.http_connection.specs.Requests.{denial_format, head_in};
-ghost use Rattle.view_service.specs.Serves as spec;
 ghost use Rattle.view_service.specs.Serves.{Answers, HasAnswered, hosts_of, keeper_of, pages_of};
 ghost use Rattle.view_service.specs.Serves.{max_body_of, tally_of};
 
@@ -18,7 +17,8 @@ use crate::show::Viewer;
 use bytes::Bytes;
 use http::Request;
 use http_connection::reply::{
-    Denial, Hosts, Tallies, denial_format, fill_denial, fill_options, is_export_path, path_of,
+    Denial, Hosts, Tallies, denial_by, denial_format, fill_denial, fill_options, head_denial,
+    is_export_path, path_of,
 };
 use http_connection::{Refusal, Service};
 use http_server::Response;
@@ -92,19 +92,6 @@ impl<K, P> ViewService<K, P> {
         self.tallies.count_connection();
     }
 
-    /// Why a request is refused by its head, if it is.
-    fn head_denial(&self, head: &Request<Bytes>, body: Option<u64>, room: usize) -> Option<Denial>
-        ensures { result ≡ spec.head_denial (hosts_of self.now) (head_of head.now) body room }
-    {
-        if !self.hosts.allow_request(head) {
-            return Some(Denial::Host);
-        }
-        if room == 0 || body.unwrap_or(0) > room as u64 {
-            return Some(Denial::NoRoom);
-        }
-        None
-    }
-
     /// Makes a blank response the answer to a request that is refused, and counts it.
     fn deny(
         &mut self,
@@ -122,21 +109,6 @@ impl<K, P> ViewService<K, P> {
         fill_denial(response, denial, denial_format(head))?;
         self.tallies.count_answer(response.status);
         Ok(())
-    }
-}
-
-/// Why the connection refuses a request.
-fn denial_by(refusal: Refusal) -> Denial
-    ensures { result ≡ spec.denial_by refusal }
-{
-    match refusal {
-        Refusal::BadRequest => Denial::BadRequest,
-        Refusal::UriTooLong => Denial::UriTooLong,
-        Refusal::FieldsTooLarge => Denial::FieldsTooLarge,
-        Refusal::BodyTooLarge => Denial::BodyTooLarge,
-        Refusal::NoRoom => Denial::NoRoom,
-        Refusal::UnknownCoding => Denial::UnknownCoding,
-        Refusal::UnknownVersion => Denial::UnknownVersion,
     }
 }
 
@@ -227,7 +199,7 @@ where
         room: usize,
         response: &mut Response,
     ) -> Result<bool, AllocError> {
-        let Some(denial) = self.head_denial(head, body, room) else {
+        let Some(denial) = head_denial(&self.hosts, head, body, room) else {
             return Ok(true);
         };
         self.deny(response, denial, Some(head))?;

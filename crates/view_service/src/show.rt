@@ -3,10 +3,11 @@
 ghost use Rattle.std.specs.Prelude.{◌≡◌, ◌≢◌, [], IfOk, None, OnOk};
 ghost use Rattle.http.specs.Request.{head_of};
 ghost use Rattle.http_server.specs.Response.{IsBlank};
-ghost use Rattle.view_service.specs.Receives.{path_of};
+ghost use Rattle.http_connection.specs.Pages.{IsPage};
+ghost use Rattle.post_body.specs.Posts.{path_of};
 ghost use Rattle.view_service.specs.Routes.{Names};
 ghost use Rattle.view_service.specs.Shows as spec;
-ghost use Rattle.view_service.specs.Shows.{AnswersPage, FitsRoute, IsPage, ShowsRoute, ShowsTrace};
+ghost use Rattle.view_service.specs.Shows.{AnswersPage, FitsRoute, ShowsRoute, ShowsTrace};
 ghost use Rattle.trace_store.specs.Keys.{trace_key};
 
 use crate::keeper::TraceKeeper;
@@ -15,7 +16,7 @@ use crate::route::{Route, route_of};
 use bytes::Bytes;
 use http::{Request, StatusCode};
 use http_connection::reply::{
-    Denial, Format, Tallies, add_format, asked_host, denial_format, fill_denial, path_of,
+    Denial, Format, Tallies, asked_host, denial_format, fill_denial, fill_page, is_read, path_of,
 };
 use http_server::Response;
 use otlp_ids::TraceId;
@@ -41,14 +42,6 @@ fn format_of(route: Route) -> Format
     }
 }
 
-/// Whether pages have a method.
-#[tactic(auto, unfolding(crate::specs::Shows::is_read))]
-fn is_read(method: &str) -> bool
-    ensures { result ≡ spec.is_read method.now }
-{
-    matches!(method, "GET" | "HEAD")
-}
-
 /// Appends a text.
 fn put(out: &mut Vec<u8>, text: &str) -> Result<(), AllocError> {
     Ok(out.extend_from_slice(text.as_bytes())?)
@@ -63,22 +56,6 @@ fn form_of(route: Route) -> TraceForm
         Route::ApiTrace(_) => TraceForm::Json,
         _ => TraceForm::Page,
     }
-}
-
-/// Makes a blank response a page.
-fn fill_page(
-    response: &mut Response,
-    status: StatusCode,
-    format: Format,
-    body: Vec<u8>,
-) -> Result<(), AllocError>
-    requires { IsBlank response.old }
-    ensures { OnOk result (IsPage status format body.items response.new) }
-{
-    response.status = status;
-    add_format(response, format)?;
-    let body = Bytes::from_vec(body)?;
-    response.body.push(body)
 }
 
 /// What became of a page that was asked for.

@@ -1,6 +1,6 @@
 //! Why requests are refused, and how a response says so.
 
-ghost use Rattle.std.specs.Prelude.{◌≡◌, ◌<◌, ◌∷◌, ◌++◌, [], OnOk, length};
+ghost use Rattle.std.specs.Prelude.{◌≡◌, ◌<◌, ◌∷◌, ◌++◌, [], IfOk, OnOk, length};
 ghost use Rattle.http_server.specs.Response.{IsBlank, fields_of};
 ghost use Rattle.http_connection.specs.Denials as spec;
 ghost use Rattle.http_connection.specs.Denials.{IsDenial, IsOptions, IsSuccess, allow_fields};
@@ -10,7 +10,7 @@ use crate::reply::format::{Format, add_field, add_format};
 use bytes::BufMut;
 use http::StatusCode;
 use http_server::{Response, Rope};
-use std::alloc::AllocError;
+use std::alloc::{AllocError, Global};
 
 /// Why a request is refused.
 #[derive(Clone, Copy, Debug, PartialEq, Eq)]
@@ -43,6 +43,8 @@ pub enum Denial {
     FieldsTooLarge,
     /// 501: its body has a transfer coding that isn't known.
     UnknownCoding,
+    /// 503: what keeps spans has failed, as a disk may.
+    KeepFailed,
     /// 503: memory was refused.
     OutOfMemory,
     /// 503: with it more would be pending than may be.
@@ -66,7 +68,9 @@ impl Denial {
             Denial::MediaType => StatusCode::UNSUPPORTED_MEDIA_TYPE,
             Denial::FieldsTooLarge => StatusCode::REQUEST_HEADER_FIELDS_TOO_LARGE,
             Denial::UnknownCoding => StatusCode::NOT_IMPLEMENTED,
-            Denial::OutOfMemory | Denial::NoRoom => StatusCode::SERVICE_UNAVAILABLE,
+            Denial::KeepFailed | Denial::OutOfMemory | Denial::NoRoom => {
+                StatusCode::SERVICE_UNAVAILABLE
+            }
             Denial::UnknownVersion => StatusCode::HTTP_VERSION_NOT_SUPPORTED,
         }
     }
@@ -80,8 +84,7 @@ impl Denial {
             Denial::BadRequest => "the request can't be read as HTTP/1.1",
             Denial::BadBody => "the body can't be read as an ExportTraceServiceRequest of its type",
             Denial::BadCoding => "the body can't be read as a gzip file, as Content-Encoding says",
-            Denial::Host =>
-                "this host isn't one of trace-view's: start trace-view with --host NAME",
+            Denial::Host => "this host isn't one of the service's: start it with --host NAME",
             Denial::NoPath => "no such path: post traces to /v1/traces",
             Denial::TracesOnly => "traces only: metrics and logs are not taken",
             Denial::ExportMethod => "post traces with the method POST",
@@ -101,6 +104,7 @@ impl Denial {
             }
             Denial::FieldsTooLarge => "the fields of the request are too large",
             Denial::UnknownCoding => "a transfer coding other than chunked isn't known",
+            Denial::KeepFailed => "traces can't be kept: the service's disk has failed",
             Denial::OutOfMemory => "out of memory: try again in a second",
             Denial::NoRoom => "too much is pending: try again in a second",
             Denial::UnknownVersion => "send the request by HTTP/1.1",
@@ -195,6 +199,23 @@ pub fn fill_denial(
     add_allow(response, denial)?;
     add_wait(response, denial)?;
     put_message(&mut response.body, denial.message(), format)
+}
+
+/// An answer that refuses a request.
+///
+/// # Errors
+///
+/// `AllocError` where memory was refused.
+pub fn denial_response(
+    alloc: Global,
+    denial: Denial,
+    format: Format,
+) -> Result<Response, AllocError>
+    ensures { IfOk result (IsDenial denial format) }
+{
+    let mut response = Response::new(alloc);
+    fill_denial(&mut response, denial, format)?;
+    Ok(response)
 }
 
 /// Appends what an export whose spans were taken is answered, in a format.

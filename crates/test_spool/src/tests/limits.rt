@@ -57,3 +57,27 @@ fn a_file_is_removed_once_all_of_its_bodies_are_noted(rt: HostRuntime) {
     assert_equal(&rt, number, 2);
     assert_equal(&rt, bytes, NOTE.as_slice());
 }
+
+/// The files after two puts, where a file grows to so many bytes.
+fn two_in(alloc: Global, segment_limit: u64) -> Result<Vec<MemoryFile>, SpoolError> {
+    let mut opened = opened(alloc, lasting(alloc, Vec::new(alloc)), 1000, segment_limit)?;
+    put_one(alloc, &mut opened.spool, &[7, 8])?;
+    put_one(alloc, &mut opened.spool, &[9])?;
+    Ok(opened.spool.into_device().into_files())
+}
+
+#[test]
+fn a_file_is_begun_where_the_newest_one_would_pass_its_limit(rt: HostRuntime) {
+    let files = two_in(rt.alloc(), 21).expect(&rt, "a spool");
+    assert_equal(&rt, files.len(), 1);
+    let (number, bytes) = shown(files.as_slice(), 0);
+    assert_equal(&rt, (number, bytes.len()), (0, 21));
+    let files = two_in(rt.alloc(), 20).expect(&rt, "a spool");
+    assert_equal(&rt, files.len(), 2);
+    let (number, bytes) = shown(files.as_slice(), 0);
+    assert_equal(&rt, number, 0);
+    assert_equal(&rt, bytes, FIRST.as_slice());
+    let (number, bytes) = shown(files.as_slice(), 1);
+    assert_equal(&rt, number, 1);
+    assert_equal(&rt, bytes, SECOND.as_slice());
+}

@@ -14,7 +14,7 @@ returns-clause-piece g c =
           ∙ ap (λ l. l ++ print w.0) c.in_ok-push_comma.ensures
           ∙ append_assoc c.args.out.now.items comma (print w.0),
       span_piece c.args.spans.now c.args.at c.index-spans-at.result w.0 c.requires
-          c.index-spans-at.is w.2 w.3,
+          c.index-spans-at.is w.2 w.3 w.4,
     )
 
 pub returns-clause-more : goal.returns-clause-more

@@ -26,7 +26,7 @@ pub returns-then-is_finite-clause-seen : goal.returns-then-is_finite-clause-seen
 returns-then-is_finite-clause-seen g c =
     number_written c.float.result c.args.out.now.tokens c.float.new.self.tokens
     (from_bits binary64 c.args.bits)
-    (sym c.is_finite.ensures.value ∙ c.if-is_finite.true) c.float.ensures.ok
+    (sym c.is_finite.ensures.value ∙ c.if-is_finite.true) c.float.ensures.plain
 
 pub returns-then-is_sign_negative-clause-seen : goal.returns-then-is_sign_negative-clause-seen
 returns-then-is_sign_negative-clause-seen g c =

@@ -4,6 +4,6 @@ pub returns-in-Ok-take_apart-clause-parts : goal.returns-in-Ok-take_apart-clause
 returns-in-Ok-take_apart-clause-parts c =
     let apart = c.in-Ok-take_apart.ensures in (
       c.in-Ok.request,
-      c.in-Ok.ensures.ok,
+      c.in-Ok.ensures.read,
       record { spans = apart.spans; traces = apart.traces; order = apart.order },
     )

@@ -1,46 +1,35 @@
 use Rattle.std.proofs.Common.{◌≡◌, ◌∙◌, Ok, ap, refl, sym}
 use Rattle.http.specs.Request.{body_of}
-use Rattle.view_service.proofs.Received.{is_meaningless, is_read, is_refused, is_undecoded}
+use Rattle.view_service.proofs.Received.{is_denied, is_read, is_undecoded}
 use Rattle.view_service.proofs.receive.receive.Goals as goal
-
-pub returns-in-Some-clause-received : goal.returns-in-Some-clause-received
-returns-in-Some-clause-received g c =
-    is_refused _ _ _ _ c.args.request.now _ _ _ _ _ c.denial_format-format.ensures _
-    (sym c.refusal_in.ensures ∙ c.in-Some.is)
-    (rw c.denial_by.ensures at c.in_ok-fill_denial.ensures) refl
 
 pub returns-in_ok-receive_content-in-Ok-None-clause-received :
     goal.returns-in_ok-receive_content-in-Ok-None-clause-received
 returns-in_ok-receive_content-in-Ok-None-clause-received g c =
     let same : c.as_slice-content.result.now ≡ body_of c.args.request.now =
     c.as_slice-content.ensures ∙ c.body.ensures in
+    let has = rw c.in-Ok-None.field-0-is at c.in-Ok-None.ensures.content in
     is_read _ _ _ _ c.args.request.now _ _ _ _ _ c.denial_format-format.ensures _
-    (sym c.refusal_in.ensures ∙ c.in_default.is)
-    (rw c.in-Ok-None.field-0-is at c.in-Ok-None.ensures.content ∙ ap Ok (sym same))
-    c.in_ok-receive_content-in-Ok-None.ensures.received
+    (has.0, has.1 ∙ ap Ok (sym same)) c.in_ok-receive_content-in-Ok-None.ensures.received
 
 pub returns-in_ok-receive_content-in-Ok-Some-clause-received :
     goal.returns-in_ok-receive_content-in-Ok-Some-clause-received
 returns-in_ok-receive_content-in-Ok-Some-clause-received g c =
+    let has = rw c.in-Ok-Some.field-0-is at c.in-Ok-Some.ensures.content in
     is_read _ _ _ _ c.args.request.now _ _ _ _ _ c.denial_format-format.ensures _
-    (sym c.refusal_in.ensures ∙ c.in_default.is)
-    (rw c.in-Ok-Some.field-0-is at c.in-Ok-Some.ensures.content
-    ∙ ap Ok (sym c.as_slice-content-in-Ok-Some.ensures.value))
+    (has.0, has.1 ∙ ap Ok (sym c.as_slice-content-in-Ok-Some.ensures.value))
     c.in_ok-receive_content-in-Ok-Some.ensures.received
 
 pub returns-in_ok-fill_denial-in-Err-Denied-clause-received :
     goal.returns-in_ok-fill_denial-in-Err-Denied-clause-received
 returns-in_ok-fill_denial-in-Err-Denied-clause-received g c =
-    let undecoded = c.in-Err-Denied.ensures.none in
-    is_meaningless _ _ _ _ c.args.request.now _ _ _ _ _ c.denial_format-format.ensures _
-    (sym c.refusal_in.ensures ∙ c.in_default.is)
-    (rw c.in-Err-Denied.field-0-is at undecoded)
+    let why = c.in-Err-Denied.ensures.none in
+    is_denied _ _ _ _ c.args.request.now _ _ _ _ _ c.denial_format-format.ensures _
+    (rw c.in-Err-Denied.field-0-is at why)
     (rw c.in-Err-Denied.denial-is at c.in_ok-fill_denial-in-Err-Denied.ensures) refl
 
 pub returns-in-Err-OutOfMemory-clause-received : goal.returns-in-Err-OutOfMemory-clause-received
 returns-in-Err-OutOfMemory-clause-received g c =
-    let undecoded = c.in-Err-OutOfMemory.ensures.none in
-    is_undecoded _ _ _ _ c.args.request.now _ _ _ _ _ c.denial_format-format.ensures
-    (sym c.refusal_in.ensures ∙ c.in_default.is)
-    (rw c.in-Err-OutOfMemory.field-0-is at undecoded)
+    let why = rw c.in-Err-OutOfMemory.field-0-is at c.in-Err-OutOfMemory.ensures.none in
+    is_undecoded _ _ _ _ c.args.request.now _ _ _ _ _ c.denial_format-format.ensures why.0 why.1
     c.in_ok-busy.ensures c.make_room.ensures

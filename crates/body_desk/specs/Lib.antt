@@ -1,0 +1,3 @@
+-- What contracts see of a desk of bodies.
+pub mod Bodies
+pub mod Inside

@@ -1,0 +1,3 @@
+-- What contracts see of names of lost spans.
+pub mod Named
+pub mod Walk

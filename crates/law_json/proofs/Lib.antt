@@ -1,0 +1,14 @@
+pub mod Fronts
+pub mod Numerals
+pub mod Leaves
+pub mod Rows
+pub mod Values
+pub mod ValuesRead
+pub mod Lists
+pub mod Parts
+pub mod Spans
+pub mod Requests
+pub mod Received
+pub mod Kept
+pub mod TraceBack
+pub mod ReadSound

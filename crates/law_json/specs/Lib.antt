@@ -1,0 +1,4 @@
+pub mod Back
+pub mod Sound
+pub mod Kept
+pub mod Laws

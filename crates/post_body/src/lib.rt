@@ -1,0 +1,15 @@
+//! Posts of spans over HTTP (OTLP Specification, "OTLP/HTTP"): which of them a collector refuses, and
+//! what the body of one means, in Protocol Buffers and in JSON, as it is and in gzip.
+//!
+//! [`content_in`] answers the bytes that the body of a post means, its content, or why the post is
+//! refused. [`read_content`] reads these, and [`size_of_content`] is how much memory that takes.
+#![tactic(auto)]
+
+mod content;
+mod post;
+mod reading;
+mod refusal;
+
+pub use content::Undecoded;
+pub use post::content_in;
+pub use reading::{Unread, is_above, read_content, size_of_content};

@@ -1,0 +1,203 @@
+//! A server whose peers are served by turns, over the system's sockets, and how it is stopped.
+
+use crate::tests::equal::assert_equal;
+use bytes::{BufMut, Bytes};
+use http::Request;
+use http_connection::{Pieces, Refusal, Service};
+use http_peers::{Peers, Settings, listen};
+use http_server::Response;
+use std::alloc::AllocError;
+use std::fs::File;
+use std::io::{Read, Write};
+use std::net::{Ipv4Addr, SocketAddr, TcpStream};
+use std::os::fd::AsRawFd;
+use std::os::unix::net::UnixStream;
+use std::process::Abort;
+
+/// Answers each request by the same text.
+#[derive(Drop)]
+struct Same;
+
+/// The rest of an answer, of which there is none.
+#[derive(Drop)]
+struct NoPieces;
+
+impl Pieces for NoPieces {
+    ghost use Rattle.std.specs.Prelude.{⊤};
+
+    ghost writes = { λ _ _. ⊤ };
+
+    fn next(&mut self, _: &mut Vec<u8>) -> Result<bool, AllocError> {
+        Ok(false)
+    }
+}
+
+impl Service for Same {
+    ghost use Rattle.std.specs.Prelude.{⊤};
+
+    type Pieces = NoPieces;
+
+    ghost answers = { λ _ _ _. ⊤ };
+
+    fn admit(
+        &mut self,
+        _: &Request<Bytes>,
+        _: Option<u64>,
+        _: usize,
+        _: &mut Response,
+    ) -> Result<bool, AllocError> {
+        Ok(true)
+    }
+
+    fn call(
+        &mut self,
+        _: &Request<Bytes>,
+        _: usize,
+        response: &mut Response,
+    ) -> Result<Option<NoPieces>, AllocError> {
+        response.body.put_slice(b"ok\n")?;
+        Ok(None)
+    }
+
+    fn refuse(
+        &mut self,
+        _: Refusal,
+        _: Option<&Request<Bytes>>,
+        _: &mut Response,
+    ) -> Result<(), AllocError> {
+        Ok(())
+    }
+}
+
+/// The peers of a server at a free port of loopback, whose requests may take a minute, and where it
+/// listens.
+fn server(rt: HostRuntime) -> Option<(Peers<HostRuntime, NoPieces>, SocketAddr)> {
+    let loopback = SocketAddr::new(Ipv4Addr::LOCALHOST.into(), 0);
+    let (listener, address) = listen(&rt, loopback).ok()?;
+    let settings = Settings::new(60_000, 60_000, 1_024, 65_536);
+    match Peers::new(rt, rt.alloc(), listener, settings) {
+        Ok(peers) => Some((peers, address)),
+        Err(_) => None,
+    }
+}
+
+/// How many rounds wait for what is to come: most take half a second at most.
+const ROUNDS: usize = 40;
+
+/// Gives the peers their turns until one more has connected, and once more. Answers the moment.
+fn accept(rt: &impl Abort, peers: &mut Peers<HostRuntime, NoPieces>) -> u64 {
+    for _round in 0..ROUNDS {
+        let accepted = match peers.round(&mut Same) {
+            Ok(round) => round.accepted,
+            Err(_) => break,
+        };
+        if accepted == 1 {
+            return turn(rt, peers);
+        }
+    }
+    panic!(rt; "nobody has connected");
+}
+
+/// Gives the peers their turns once. Answers the moment.
+fn turn(rt: &impl Abort, peers: &mut Peers<HostRuntime, NoPieces>) -> u64 {
+    match peers.round(&mut Same) {
+        Ok(round) => round.at_ms,
+        Err(_) => panic!(rt; "no round"),
+    }
+}
+
+/// Gives the peers their turns until no more is to be done. Answers whether that came.
+fn ends(rt: &impl Abort, peers: &mut Peers<HostRuntime, NoPieces>) -> bool {
+    for _round in 0..ROUNDS {
+        let at_ms = turn(rt, peers);
+        if peers.is_done(at_ms) {
+            return true;
+        }
+    }
+    false
+}
+
+/// A server that is stopped listens no more, and answers the request that had begun to arrive; then
+/// it closes the peer, and has no more to do.
+#[test]
+fn a_server_that_is_stopped_answers_what_was_begun(rt: HostRuntime) {
+    let (mut peers, address) = server(rt).expect(&rt, "a server");
+    let mut client = TcpStream::connect(&rt, address).expect(&rt, "a connection");
+    client
+        .write_all(b"GET / HTTP/1.1\r\n")
+        .expect(&rt, "a written line");
+    let at_ms = accept(&rt, &mut peers);
+    assert_equal(&rt, peers.is_done(at_ms), false);
+    peers.stop(at_ms.saturating_add(60_000));
+    assert_equal(&rt, TcpStream::connect(&rt, address).is_err(), true);
+    let at_ms = turn(&rt, &mut peers);
+    assert_equal(&rt, peers.is_done(at_ms), false);
+    client
+        .write_all(b"Host: a\r\n\r\n")
+        .expect(&rt, "a written head");
+    assert_equal(&rt, ends(&rt, &mut peers), true);
+    let mut came = Vec::new(rt.alloc());
+    client
+        .read_to_end(&mut came)
+        .expect(&rt, "an answer and its end");
+    assert_equal(&rt, came.starts_with(b"HTTP/1.1 200 "), true);
+    assert_equal(&rt, came.ends_with(b"\r\n\r\nok\n"), true);
+}
+
+/// A server that is stopped waits for a request that never ends until the moment it was given.
+#[test]
+fn a_server_that_is_stopped_waits_until_its_end(rt: HostRuntime) {
+    let (mut peers, address) = server(rt).expect(&rt, "a server");
+    let mut client = TcpStream::connect(&rt, address).expect(&rt, "a connection");
+    client
+        .write_all(b"GET / HTTP/1.1\r\n")
+        .expect(&rt, "a written line");
+    let at_ms = accept(&rt, &mut peers);
+    let end_ms = at_ms.saturating_add(1_500);
+    peers.stop(end_ms);
+    let at_ms = turn(&rt, &mut peers);
+    assert_equal(&rt, peers.is_done(at_ms), end_ms <= at_ms);
+    assert_equal(&rt, ends(&rt, &mut peers), true);
+    assert_equal(&rt, peers.is_done(end_ms), true);
+    assert_equal(&rt, peers.is_done(end_ms - 1), false);
+}
+
+/// A peer that asks for nothing is closed once a server is stopped.
+#[test]
+fn a_server_that_is_stopped_closes_who_asks_for_nothing(rt: HostRuntime) {
+    let (mut peers, address) = server(rt).expect(&rt, "a server");
+    let mut client = TcpStream::connect(&rt, address).expect(&rt, "a connection");
+    let at_ms = accept(&rt, &mut peers);
+    peers.stop(at_ms.saturating_add(60_000));
+    assert_equal(&rt, ends(&rt, &mut peers), true);
+    assert_equal(&rt, client.read(&mut [0; 8]).ok(), Some(0));
+}
+
+/// Whether a round says that the program is to stop.
+fn is_to_stop(rt: &impl Abort, peers: &mut Peers<HostRuntime, NoPieces>) -> bool {
+    match peers.round(&mut Same) {
+        Ok(round) => round.is_to_stop,
+        Err(_) => panic!(rt; "no round"),
+    }
+}
+
+/// A program is to stop once bytes come at what it watches, or the end.
+#[test]
+fn bytes_or_the_end_ask_to_stop(rt: HostRuntime) {
+    let (mut peers, _) = server(rt).expect(&rt, "a server");
+    let (mut sends, input) = UnixStream::pair(&rt).expect(&rt, "a pair");
+    assert_equal(&rt, peers.watch(input.as_raw_fd()).is_ok(), true);
+    assert_equal(&rt, is_to_stop(&rt, &mut peers), false);
+    assert_equal(&rt, sends.write(b"x").ok(), Some(1));
+    assert_equal(&rt, is_to_stop(&rt, &mut peers), true);
+    drop(sends);
+    assert_equal(&rt, is_to_stop(&rt, &mut peers), true);
+}
+
+/// What the system can't wait for is refused.
+#[test]
+fn no_file_can_be_watched(rt: HostRuntime) {
+    let (peers, _) = server(rt).expect(&rt, "a server");
+    let nothing = File::open(&rt, "/dev/null").expect(&rt, "a file");
+    assert_equal(&rt, peers.watch(nothing.as_raw_fd()).is_err(), true);
+}
