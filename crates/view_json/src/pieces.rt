@@ -118,7 +118,8 @@ fn spans_from<A: Allocator + Copy>(
 /// hexadecimal, numbers of 64 bits as texts, kinds and codes as numbers, and bytes in Base64. A
 /// double that is no number or infinite is the text `NaN`, `Infinity` or `-Infinity`. Each span is
 /// under a resource and a scope of its own, in the order of the list, and each member is written,
-/// also where it has its default (profile).
+/// also where it has its default, but for one: where the value of a pair is empty, the pair has no
+/// member `value` (profile).
 ///
 /// An attribute's value that nests deeper than some 40 levels makes the text nest deeper than the
 /// 128 levels that many readers of JSON take.

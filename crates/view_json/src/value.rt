@@ -1,15 +1,15 @@
 //! Values of attributes.
 
-ghost use Rattle.std.specs.Prelude.{◌≡◌, [], ◌∷◌, ◌++◌, OnOk, codes, from_bits};
+ghost use Rattle.std.specs.Prelude.{◌≡◌, ◌==◌, [], ◌∷◌, ◌++◌, OnOk, codes, from_bits, length};
 ghost use Rattle.std.specs.Float.{binary64};
 ghost use Rattle.std.specs.Fmt.{signed_decimal};
 ghost use Rattle.std.specs.List.{flat_map};
 ghost use Rattle.base64.specs.GeneralPurpose.{encode_of};
 ghost use Rattle.base64.specs.Engines.{standard};
 ghost use Rattle.json.specs.Token.{boolean, key};
-ghost use Rattle.view_json.specs.Seen.{Other, braces, float_seen, seen, text_member};
-ghost use Rattle.view_json.specs.Values.{attributes_member, nested, nested_back, nested_front};
-ghost use Rattle.view_json.specs.Values.{pair_front, pair_seen, pair_text, value_seen};
+ghost use Rattle.view_json.specs.Seen.{Other, float_seen, seen, text_member};
+ghost use Rattle.view_json.specs.Values.{attributes_member, member_seen, nested, nested_back};
+ghost use Rattle.view_json.specs.Values.{nested_front, pair_seen, pair_text, value_seen};
 
 use crate::field::{
     begin, begin_list, begin_member, end, end_list, push_bool, push_key, push_signed_long,
@@ -45,93 +45,86 @@ fn push_float<A: Allocator>(out: &mut Writer<A>, bits: u64) -> Result<(), AllocE
     out.string("Infinity")
 }
 
-/// Writes a value that is a text.
-fn push_text_value<A: Allocator>(
-    out: &mut Writer<A>,
-    name: &str,
-    text: &str,
-) -> Result<(), AllocError>
-    ensures seen { OnOk result (seen out.new.tokens
-        ≡ seen out.old.tokens ++ braces (seen (text_member name.now text.now))) }
-    ensures before { out.new.before ≡ out.old.before }
-{
-    begin(out)?;
-    push_text(out, name, text)?;
-    end(out)
-}
-
-/// Writes a value that is bytes.
-fn push_bytes_value<A: Allocator + Copy>(
+/// Writes the member of a value that is bytes.
+fn push_bytes<A: Allocator + Copy>(
     alloc: A,
     out: &mut Writer<A>,
     bytes: &[u8],
 ) -> Result<(), AllocError>
     ensures seen { OnOk result (seen out.new.tokens ≡ seen out.old.tokens
-        ++ braces (seen (text_member (codes "bytesValue") (encode_of standard bytes.now)))) }
+        ++ seen (text_member (codes "bytesValue") (encode_of standard bytes.now))) }
     ensures before { out.new.before ≡ out.old.before }
 {
     let text = STANDARD.encode(alloc, bytes)?;
-    push_text_value(out, "bytesValue", &text)
+    push_text(out, "bytesValue", &text)
 }
 
-/// Writes a value that is a truth value.
-fn push_bool_value<A: Allocator>(out: &mut Writer<A>, truth: bool) -> Result<(), AllocError>
+/// Writes the member of a value that is a truth value.
+fn push_truth<A: Allocator>(out: &mut Writer<A>, truth: bool) -> Result<(), AllocError>
     ensures seen { OnOk result (seen out.new.tokens ≡ seen out.old.tokens
-        ++ braces (Other (key (codes "boolValue")) ∷ Other (boolean truth) ∷ [])) }
+        ++ Other (key (codes "boolValue")) ∷ Other (boolean truth) ∷ []) }
     ensures before { out.new.before ≡ out.old.before }
 {
-    begin(out)?;
-    push_bool(out, "boolValue", truth)?;
-    end(out)
+    push_bool(out, "boolValue", truth)
 }
 
-/// Writes a value that is a whole number.
-fn push_int_value<A: Allocator>(out: &mut Writer<A>, number: i64) -> Result<(), AllocError>
+/// Writes the member of a value that is a whole number.
+fn push_int<A: Allocator>(out: &mut Writer<A>, number: i64) -> Result<(), AllocError>
     ensures seen { OnOk result (seen out.new.tokens ≡ seen out.old.tokens
-        ++ braces (seen (text_member (codes "intValue") (signed_decimal number)))) }
+        ++ seen (text_member (codes "intValue") (signed_decimal number))) }
     ensures before { out.new.before ≡ out.old.before }
 {
-    begin(out)?;
-    push_signed_long(out, "intValue", number)?;
-    end(out)
+    push_signed_long(out, "intValue", number)
 }
 
-/// Writes a value that is a double.
-fn push_double_value<A: Allocator>(out: &mut Writer<A>, bits: u64) -> Result<(), AllocError>
+/// Writes the member of a value that is a double.
+fn push_double<A: Allocator>(out: &mut Writer<A>, bits: u64) -> Result<(), AllocError>
     ensures seen { OnOk result (seen out.new.tokens ≡ seen out.old.tokens
-        ++ braces (Other (key (codes "doubleValue")) ∷ float_seen (from_bits binary64 bits) ∷ [])) }
+        ++ Other (key (codes "doubleValue")) ∷ float_seen (from_bits binary64 bits) ∷ []) }
     ensures before { out.new.before ≡ out.old.before }
 {
-    begin(out)?;
     push_key(out, "doubleValue")?;
-    push_float(out, bits)?;
-    end(out)
+    push_float(out, bits)
 }
 
-/// Begins a value that has others in it, in an object of this name.
+/// Begins the member of this name of a value that has others in it.
 fn begin_nested<A: Allocator>(out: &mut Writer<A>, name: &str) -> Result<(), AllocError>
     ensures seen { OnOk result (seen out.new.tokens ≡ seen out.old.tokens
         ++ nested_front name.now) }
     ensures before { out.new.before ≡ out.old.before }
 {
-    begin(out)?;
     begin_member(out, name)?;
     begin_list(out, "values")
 }
 
-/// Ends a value that has others in it.
+/// Ends the member of a value that has others in it.
 fn end_nested<A: Allocator>(out: &mut Writer<A>) -> Result<(), AllocError>
     ensures seen { OnOk result (seen out.new.tokens ≡ seen out.old.tokens ++ nested_back) }
     ensures before { out.new.before ≡ out.old.before }
 {
     end_list(out)?;
-    end(out)?;
     end(out)
 }
 
-/// Writes a value: an object with one member, which says what it is (common.proto: AnyValue).
+/// Whether a value is empty: it has no member.
+fn is_empty<A: Allocator>(value: &AnyValue<A>) -> bool
+    ensures { result ≡ (length (member_seen value.now) == 0) }
+{
+    match value {
+        AnyValue::Empty => true,
+        AnyValue::Text(_)
+        | AnyValue::Bool(_)
+        | AnyValue::Int(_)
+        | AnyValue::Double(_)
+        | AnyValue::Array(_)
+        | AnyValue::Pairs(_)
+        | AnyValue::Bytes(_) => false,
+    }
+}
+
+/// Writes a value: an object with one member, or none where it is empty (common.proto: AnyValue).
 #[cycle(value)]
-pub(crate) fn push_value<A: Allocator + Copy>(
+fn push_value<A: Allocator + Copy>(
     alloc: A,
     out: &mut Writer<A>,
     value: &AnyValue<A>,
@@ -140,25 +133,32 @@ pub(crate) fn push_value<A: Allocator + Copy>(
         ≡ seen out.old.tokens ++ value_seen value.now) }
     ensures before { out.new.before ≡ out.old.before }
 {
-    match value {
-        AnyValue::Empty => push_empty_value(out),
-        AnyValue::Text(text) => push_text_value(out, "stringValue", text),
-        AnyValue::Bool(truth) => push_bool_value(out, *truth),
-        AnyValue::Int(number) => push_int_value(out, *number),
-        AnyValue::Double(bits) => push_double_value(out, *bits),
-        AnyValue::Array(values) => push_array(alloc, out, values),
-        AnyValue::Pairs(pairs) => push_pairs(alloc, out, pairs),
-        AnyValue::Bytes(bytes) => push_bytes_value(alloc, out, bytes),
-    }
+    begin(out)?;
+    push_member(alloc, out, value)?;
+    end(out)
 }
 
-/// Writes a value that is nothing.
-fn push_empty_value<A: Allocator>(out: &mut Writer<A>) -> Result<(), AllocError>
-    ensures seen { OnOk result (seen out.new.tokens ≡ seen out.old.tokens ++ braces []) }
+/// Writes the member of a value, which says what it is. An empty value has none.
+#[cycle(value)]
+fn push_member<A: Allocator + Copy>(
+    alloc: A,
+    out: &mut Writer<A>,
+    value: &AnyValue<A>,
+) -> Result<(), AllocError>
+    ensures seen { OnOk result (seen out.new.tokens
+        ≡ seen out.old.tokens ++ member_seen value.now) }
     ensures before { out.new.before ≡ out.old.before }
 {
-    begin(out)?;
-    end(out)
+    match value {
+        AnyValue::Empty => Ok(()),
+        AnyValue::Text(text) => push_text(out, "stringValue", text),
+        AnyValue::Bool(truth) => push_truth(out, *truth),
+        AnyValue::Int(number) => push_int(out, *number),
+        AnyValue::Double(bits) => push_double(out, *bits),
+        AnyValue::Array(values) => push_array(alloc, out, values),
+        AnyValue::Pairs(pairs) => push_pairs(alloc, out, pairs),
+        AnyValue::Bytes(bytes) => push_bytes(alloc, out, bytes),
+    }
 }
 
 /// Writes an array of values (common.proto: ArrayValue).
@@ -197,18 +197,7 @@ fn push_pairs<A: Allocator + Copy>(
     end_nested(out)
 }
 
-/// Begins a pair, with its key (common.proto: KeyValue).
-fn begin_pair<A: Allocator>(out: &mut Writer<A>, name: &str) -> Result<(), AllocError>
-    ensures seen { OnOk result (seen out.new.tokens ≡ seen out.old.tokens
-        ++ pair_front name.now) }
-    ensures before { out.new.before ≡ out.old.before }
-{
-    begin(out)?;
-    push_text(out, "key", name)?;
-    push_key(out, "value")
-}
-
-/// Writes a pair (common.proto: KeyValue).
+/// Writes a pair, without a member for a value that is empty (common.proto: KeyValue).
 #[cycle(value)]
 fn push_pair<A: Allocator + Copy>(
     alloc: A,
@@ -217,10 +206,15 @@ fn push_pair<A: Allocator + Copy>(
     value: &AnyValue<A>,
 ) -> Result<(), AllocError>
     ensures seen { OnOk result (seen out.new.tokens ≡ seen out.old.tokens
-        ++ pair_text name.now (value_seen value.now)) }
+        ++ pair_text name.now (member_seen value.now)) }
     ensures before { out.new.before ≡ out.old.before }
 {
-    begin_pair(out, name)?;
+    begin(out)?;
+    push_text(out, "key", name)?;
+    if is_empty(value) {
+        return end(out);
+    }
+    push_key(out, "value")?;
     push_value(alloc, out, value)?;
     end(out)
 }

@@ -21,15 +21,19 @@ invariant-push_pairs-loop-key g l = record {
   before : l.out.before ≡ l.initial.out.before;
 }
 
--- a value takes more than what is in it, and that no less than each part
+-- A value takes more than what is in it, and that no less than each part: a pair before its value,
+-- and a value before its member.
+abbrev pub decreases-push_member : goal.decreases-push_member
+decreases-push_member g l = 3 * value_bytes l.value.now
+
 abbrev pub decreases-push_value : goal.decreases-push_value
-decreases-push_value g l = 2 * value_bytes l.value.now
+decreases-push_value g l = 3 * value_bytes l.value.now + 1
 
 abbrev pub decreases-push_pair : goal.decreases-push_pair
-decreases-push_pair g l = 2 * value_bytes l.value.now + 1
+decreases-push_pair g l = 3 * value_bytes l.value.now + 2
 
 abbrev pub decreases-push_array : goal.decreases-push_array
-decreases-push_array g l = 2 * sum_by value_bytes l.values.now + 1
+decreases-push_array g l = 3 * sum_by value_bytes l.values.now + 2
 
 abbrev pub decreases-push_pairs : goal.decreases-push_pairs
-decreases-push_pairs g l = 2 * sum_by pair_bytes l.pairs.now + 1
+decreases-push_pairs g l = 3 * sum_by pair_bytes l.pairs.now + 2

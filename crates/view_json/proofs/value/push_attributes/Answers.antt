@@ -1,7 +1,7 @@
 use Rattle.std.proofs.Common.{◌∙◌, ◌++◌, ◌∷◌, [], ap, codes}
 use Rattle.json.specs.Token.{begin_array, end_array, key}
 use Rattle.view_json.specs.Seen.{Other, seen}
-use Rattle.view_json.specs.Values.{pair_seen, pair_text, value_seen}
+use Rattle.view_json.specs.Values.{member_seen, pair_seen, pair_text}
 use Rattle.view_json.proofs.Chains.{list_written, next_written}
 use Rattle.view_json.proofs.value.push_attributes.Goals as goal
 
@@ -13,7 +13,7 @@ loop-key-preserved g c = record {
       (seen c.push_pair.new.out.tokens) _ c.loop-key-test.true c.loop-key-item.is
       c.loop-key.invariant.written
       (c.in_ok-push_pair.ensures.seen
-      ∙ ap (λ l. seen c.loop-key.out.tokens ++ pair_text l (value_seen c.loop-key-item.result.1))
+      ∙ ap (λ l. seen c.loop-key.out.tokens ++ pair_text l (member_seen c.loop-key-item.result.1))
       c.deref.ensures);
   before = c.in_ok-push_pair.ensures.before ∙ c.loop-key.invariant.before;
 }
