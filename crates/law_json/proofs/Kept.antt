@@ -29,13 +29,13 @@ use Rattle.law_json.specs.Kept.{kept_triple}
 use Rattle.law_json.proofs.Parts
 use Rattle.law_json.proofs.Spans
 use Rattle.law_json.proofs.Requests
-use Rattle.law_json.proofs.Received.{value_is}
+use Rattle.law_json.proofs.Received.{member_is}
 
 pairs_is : {A : Type 0} (ps : List (String A × AnyValue A))
     → flat_map pair_seen ps ≡ Parts.pairs_seen (pairs_view ps)
 pairs_is [] = refl
 pairs_is (p ∷ ps) =
-    ap₂ (λ v l. pair_text (string_bytes p.0) v ++ l) (value_is p.1) (pairs_is ps)
+    ap₂ (λ m l. pair_text (string_bytes p.0) m ++ l) (member_is p.1) (pairs_is ps)
 
 -- attributes, before other members
 abbrev with_pairs : List Seen → List Seen → List Seen

@@ -27,8 +27,9 @@ use Rattle.otlp_json.specs.Names.{status_member}
 use Rattle.otlp_json.specs.LeafNames as leaves
 use Rattle.otlp_json.specs.MessageNames as messages
 use Rattle.view_json.specs.Seen.{Seen, Other, braces, brackets, number_seen}
+use Rattle.view_json.specs.Values.{value_member}
 use Rattle.law_json.specs.Back.{message_back}
-use Rattle.law_json.specs.Sound.{IsSound, IsSoundMessage}
+use Rattle.law_json.specs.Sound.{IsSound, IsSoundMessage, IsSoundValue}
 use Rattle.law_json.proofs.Fronts.{TakesItems, TakesObject, no_members, object_takes}
 use Rattle.law_json.proofs.Leaves.{enum_means, long_means, text_means}
 use Rattle.law_json.proofs.Leaves.{uint32_means}
@@ -37,8 +38,9 @@ use Rattle.law_json.proofs.Lists.{rows_take}
 use Rattle.law_json.proofs.Lists.{then_each, then_leaf}
 use Rattle.law_json.proofs.Rows.{both, both_spelled, bytes_below, message_read, parts_below}
 use Rattle.law_json.proofs.Rows.{rest_below, spelled_bytes, spelled_payload}
-use Rattle.law_json.proofs.Values.{pair_row, pair_takes, value_members, value_takes}
-use Rattle.law_json.proofs.ValuesRead.{pair_read, value_read}
+use Rattle.law_json.proofs.Values.{pair_row, pair_takes, sound_in_pair, value_members, value_taken}
+use Rattle.law_json.proofs.Values.{value_takes}
+use Rattle.law_json.proofs.ValuesRead.{nothing_read, pair_read, reads_in_pair, value_read}
 
 -- ---- pairs
 
@@ -47,8 +49,7 @@ Pair = Message key_value
 
 abbrev pub pair_members : Pair → List Seen
 pair_members p =
-    Other (key (codes "key")) ∷ Other (string p.0) ∷ Other (key (codes "value"))
-    ∷ braces (value_members p.1.0)
+    Other (key (codes "key")) ∷ Other (string p.0) ∷ value_member (value_members p.1.0)
 
 abbrev pub pair_fields : Pair → List Field
 pair_fields p = pair_row p.0 p.1.0
@@ -68,13 +69,14 @@ abbrev pub pairs_as : List Pair → List Pair
 pairs_as ps = map (message_back key_value) ps
 
 -- A list of pairs means a field for each pair.
-pub pairs_take : (depth n : ℕ) (ps : List Pair) → 190 ≤ depth → SoundPairs ps
+pub pairs_take : (depth n : ℕ) (ps : List Pair) → 191 ≤ depth → SoundPairs ps
     → TakesItems (object (suc (suc depth))) n messages.key_value (pairs_seen ps) (pairs_rows n ps)
 pairs_take depth n ps room h =
     rows_take pair_fields (object (suc (suc depth))) n messages.key_value
     (λ p. IsSoundMessage key_value p) pair_members
-    (λ p k. pair_takes depth p.0 p.1.0 (value_takes 64 depth p.1.0 k.1.0 (omega (arith, room)))) ps
-    h
+    (λ p k. pair_takes (suc depth) p.0 p.1.0
+    (value_taken 64 (suc depth) p.1.0 (value_takes 64)
+    (sound_in_pair (IsSoundValue 64) p.1.0 k.1.0) (omega (arith, room)))) ps h
 
 abbrev pub values : PayloadReading AnyValue
 values = value max_depth
@@ -83,7 +85,10 @@ pair_back : (p : Pair) → IsSoundMessage key_value p → length (row_bytes (pai
     → read values (message key_value) (len (row_bytes (pair_fields p)) ∷ [])
     ≡ done (message_back key_value p)
 unfolding message_back
-pair_back p h small = pair_read values p.0 p.1.0 h.0 small (value_read 64 p.1.0 h.1.0)
+pair_back p h small =
+    pair_read values p.0 p.1.0 h.0 small
+    (reads_in_pair values (IsSoundValue 64) (nothing_read 64) (value_read 64) p.1.0
+    (sound_in_pair (IsSoundValue 64) p.1.0 h.1.0))
 
 -- The fields of a list of pairs are read as what comes back.
 pub pairs_back : (n : ℕ) (ps : List Pair) → SoundPairs ps
@@ -210,7 +215,7 @@ abbrev pub resource_row : Message Tables.resource → List Field
 resource_row r = pairs_rows 1 r.0 ++ dropped 2 r.1.0
 
 -- A resource means its fields.
-pub resource_takes : (depth : ℕ) (r : Message Tables.resource) → 190 ≤ depth
+pub resource_takes : (depth : ℕ) (r : Message Tables.resource) → 191 ≤ depth
     → IsSoundMessage Tables.resource r
     → TakesObject (object (suc (suc (suc depth)))) messages.resource (resource_seen r)
     (resource_row r)
@@ -261,7 +266,7 @@ abbrev pub scope_row : Message Tables.scope → List Field
 scope_row s = scope_front s ++ (pairs_rows 3 s.1.1.0 ++ dropped 4 s.1.1.1.0)
 
 -- A scope means its fields.
-pub scope_takes : (depth : ℕ) (s : Message Tables.scope) → 190 ≤ depth
+pub scope_takes : (depth : ℕ) (s : Message Tables.scope) → 191 ≤ depth
     → IsSoundMessage Tables.scope s
     → TakesObject (object (suc (suc (suc depth)))) messages.scope (scope_seen s) (scope_row s)
 unfolding member_named scope_member
@@ -328,7 +333,7 @@ abbrev pub event_row : Message Tables.event → List Field
 event_row e = event_front e ++ (pairs_rows 3 e.1.1.0 ++ dropped 4 e.1.1.1.0)
 
 -- An event means its fields.
-pub event_takes : (depth : ℕ) (e : Message Tables.event) → 190 ≤ depth
+pub event_takes : (depth : ℕ) (e : Message Tables.event) → 191 ≤ depth
     → IsSoundMessage Tables.event e
     → TakesObject (object (suc (suc (suc depth)))) messages.event (event_seen e) (event_row e)
 unfolding member_named event_member

@@ -27,7 +27,9 @@ use Rattle.model_message.specs.Messages.{wire_type}
 use Rattle.model_message.specs.Spelling.{IsPayload, IsRow, number_of_septets}
 use Rattle.model_message.specs.Whole.{EachValue, EachPair, IsText}
 use Rattle.model_message.proofs.RowLaws.{row-spelled}
-use Rattle.law_json.specs.Sound.{AreSoundBy, IsReadTriple, IsReadValue, IsSoundBy, IsSoundMember}
+use Rattle.law_json.specs.Sound.{AreSoundBy, IsPairValue, IsSoundBy, IsSoundMember, IsSoundMessage}
+use Rattle.law_json.specs.Sound.{IsSoundTriple, IsSoundValue}
+use Rattle.law_json.proofs.Values.{sound_in_pair}
 
 -- ---- lists
 
@@ -296,14 +298,37 @@ module _ (deeper : PayloadReading AnyValue) (P : AnyValue → Type 0)
           table_sound t fields h more.0,
         )
 
-  -- ---- the members of a value
+-- ---- the members of a value: an item has one payload, and the value of a pair may have none
+
+module _ (deeper : PayloadReading AnyValue) (P : AnyValue → Type 0)
+    (item : (p : Payload) → Fit any p → (deeper (p ∷ [])).faults ≡ [] → P (deeper (p ∷ [])).value)
+    (back : (ps : List Payload) → AllByRecursion (Fit any) ps → (deeper ps).faults ≡ []
+    → IsPairValue P (deeper ps).value) where
+  -- What is read of payloads is sound, by the type of the field.
+  of_shape : (s : Shape) (ps : List Payload) → AllByRecursion (Fit s) ps
+      → (read deeper s ps).faults ≡ [] → IsSoundBy (IsPairValue P) s (read deeper s ps).value
+  of_shape s ps h e = shape_sound deeper (IsPairValue P) back s ps h e
+
+  array_sound : (ps : List Payload) → AllByRecursion (Fit text) ps
+      → (read deeper (message array_value) ps).faults ≡ []
+      → AllByRecursion P (read deeper (message array_value) ps).value.0
+  unfolding read
+  array_sound ps h e =
+      let b = both_nil (joined_rows ps).faults _ e in
+      let fields = (joined_rows ps).value in
+      let one =
+      both_nil (each (λ p. deeper (p ∷ [])) (payloads 1 (repeated any) fields)).faults _ b.1
+      in
+      each_sound (λ p. deeper (p ∷ [])) (Fit any) P item (payloads 1 (repeated any) fields)
+      (payloads_fit 1 (repeated any) fields (joined_sound (message array_value) ps h b.0)) one.0
 
   values_each : (vs : List AnyValue) → AllByRecursion P vs → EachValue P (as_values vs)
   values_each [] h = tt
   values_each (v ∷ vs) h = (h.0, values_each vs h.1)
 
-  pairs_each : (ps : List (Message key_value)) → AllByRecursion (λ p. AreSoundBy P key_value p) ps
-      → EachPair P (as_pairs ps)
+  pairs_each : (ps : List (Message key_value))
+      → AllByRecursion (λ p. AreSoundBy (IsPairValue P) key_value p) ps
+      → EachPair (IsPairValue P) (as_pairs ps)
   pairs_each [] h = tt
   pairs_each (p ∷ ps) h = (h.0.0, h.0.1.0, pairs_each ps h.1)
 
@@ -315,24 +340,23 @@ module _ (deeper : PayloadReading AnyValue) (P : AnyValue → Type 0)
 
   each_makes : AllByRecursion MakesSound members
   each_makes = (
-    (λ ps h e. shape_sound text ps h (no_more (read deeper text ps) e)),
+    (λ ps h e. of_shape text ps h (no_more (read deeper text ps) e)),
     (
       (λ ps h e. tt),
       (
-        (λ ps h e. shape_sound int64 ps h (no_more (read deeper int64 ps) e)),
+        (λ ps h e. of_shape int64 ps h (no_more (read deeper int64 ps) e)),
         (
-          (λ ps h e. shape_sound fixed64 ps h (no_more (read deeper fixed64 ps) e)),
+          (λ ps h e. of_shape fixed64 ps h (no_more (read deeper fixed64 ps) e)),
           (
             (λ ps h e.
                 values_each _
-                (shape_sound (message array_value) ps h
-                (no_more (read deeper (message array_value) ps) e)).0),
+                (array_sound ps h (no_more (read deeper (message array_value) ps) e))),
             (
               (λ ps h e.
                   pairs_each _
-                  (shape_sound (message key_value_list) ps h
+                  (of_shape (message key_value_list) ps h
                   (no_more (read deeper (message key_value_list) ps) e)).0),
-              ((λ ps h e. shape_sound bytes ps h (no_more (read deeper bytes ps) e)), tt),
+              ((λ ps h e. of_shape bytes ps h (no_more (read deeper bytes ps) e)), tt),
             ),
           ),
         ),
@@ -362,62 +386,92 @@ module _ (deeper : PayloadReading AnyValue) (P : AnyValue → Type 0)
       found_makes (λ m. is_field m.number m.shape f) members each_makes
       (last_run f.number (f ∷ fields)) (run_sound f.number (f ∷ fields) h) e
 
--- A value that is read without a fault is one that can be read.
-value_sound : (depth : ℕ) (ps : List Payload) → AllByRecursion (Fit any) ps
-    → (value depth ps).faults ≡ [] → IsReadValue depth (value depth ps).value
-unfolding value IsReadValue
-value_sound zero [] h e = refl
-value_sound zero (p ∷ ps) h e = cc
-value_sound (suc depth) ps h e =
+-- what is read of payloads as the value of a pair, and of one as an item of an array
+abbrev PairsSound : ℕ → Type 0
+PairsSound depth =
+    (ps : List Payload) → AllByRecursion (Fit any) ps → (value depth ps).faults ≡ []
+    → IsPairValue (IsSoundValue depth) (value depth ps).value
+
+abbrev ItemsSound : ℕ → Type 0
+ItemsSound depth =
+    (p : Payload) → Fit any p → (value depth (p ∷ [])).faults ≡ []
+    → IsSoundValue depth (value depth (p ∷ [])).value
+
+-- one level, where what is in it is sound
+level_sound : (depth : ℕ) → ItemsSound depth → PairsSound depth → (ps : List Payload)
+    → AllByRecursion (Fit any) ps → (value (suc depth) ps).faults ≡ []
+    → IsSoundValue (suc depth) (value (suc depth) ps).value
+unfolding value IsSoundValue
+level_sound depth items pairs ps h e =
     let b = both_nil (joined_rows ps).faults _ e in
     let fields = (joined_rows ps).value in
-    value_of_sound (value depth) (IsReadValue depth) (value_sound depth)
+    value_of_sound (value depth) (IsSoundValue depth) items pairs
     (reverse (filter (λ f. is_some (member_of f)) fields))
     (turned_sound (filter (λ f. is_some (member_of f)) fields)
     (all_kept SoundField (λ f. is_some (member_of f)) fields (joined_sound any ps h b.0))) b.1
 
--- ---- the spans of a request
+mutual
+  unfolding value
 
-abbrev Read : AnyValue → Type 0
-Read = IsReadValue max_depth
+  -- Past the last level no item is read without a fault.
+  item_sound : (depth : ℕ) → ItemsSound depth
+  item_sound zero p h e = cc
+  item_sound (suc depth) p h e =
+      level_sound depth (item_sound depth) (pair_sound depth) (p ∷ []) (h, tt) e
+
+  -- Past the last level the value of a pair is read without a fault if it isn't there.
+  pair_sound : (depth : ℕ) → PairsSound depth
+  pair_sound zero [] h e = tt
+  pair_sound zero (p ∷ ps) h e = cc
+  pair_sound (suc depth) ps h e =
+      sound_in_pair (IsSoundValue (suc depth)) (value (suc depth) ps).value
+      (level_sound depth (item_sound depth) (pair_sound depth) ps h e)
+
+-- A value of 64 levels that is read without a fault is sound.
+value_sound : (ps : List Payload) → AllByRecursion (Fit any) ps
+    → (value max_depth ps).faults ≡ [] → IsSoundValue max_depth (value max_depth ps).value
+value_sound ps h e = level_sound 63 (item_sound 63) (pair_sound 63) ps h e
+
+-- ---- the spans of a request
 
 spans_sound : (r : Message Tables.resource) (url : List ℕ) (sc : Message Tables.scope)
     (scope_url : List ℕ)
-    → AreSoundBy Read Tables.resource r → IsText url → AreSoundBy Read Tables.scope sc
+    → IsSoundMessage Tables.resource r → IsText url → IsSoundMessage Tables.scope sc
     → IsText scope_url → (spans : List (Message Tables.span))
-    → AllByRecursion (λ s. AreSoundBy Read Tables.span s) spans
-    → AllByRecursion IsReadTriple (scope_triples r url (sc, (spans, (scope_url, tt))))
+    → AllByRecursion (λ s. IsSoundMessage Tables.span s) spans
+    → AllByRecursion IsSoundTriple (scope_triples r url (sc, (spans, (scope_url, tt))))
 spans_sound r url sc scope_url hr hu hs hv [] h = tt
 spans_sound r url sc scope_url hr hu hs hv (s ∷ spans) h = (
   record { resource = hr; resource_schema = hu; scope = hs; scope_schema = hv; span = h.0 },
   spans_sound r url sc scope_url hr hu hs hv spans h.1,
 )
 
-scopes_sound : (r : Message Tables.resource) (url : List ℕ) → AreSoundBy Read Tables.resource r
+scopes_sound : (r : Message Tables.resource) (url : List ℕ) → IsSoundMessage Tables.resource r
     → IsText url → (scopes : List (Message Tables.scope_spans))
-    → AllByRecursion (λ g. AreSoundBy Read Tables.scope_spans g) scopes
-    → AllByRecursion IsReadTriple (flat_map (scope_triples r url) scopes)
+    → AllByRecursion (λ g. IsSoundMessage Tables.scope_spans g) scopes
+    → AllByRecursion IsSoundTriple (flat_map (scope_triples r url) scopes)
 scopes_sound r url hr hu [] h = tt
 scopes_sound r url hr hu (g ∷ scopes) h =
-    all_both IsReadTriple (scope_triples r url g) (flat_map (scope_triples r url) scopes)
+    all_both IsSoundTriple (scope_triples r url g) (flat_map (scope_triples r url) scopes)
     (spans_sound r url g.0 g.1.1.0 hr hu h.0.0 h.0.1.1.0 g.1.0 h.0.1.0)
     (scopes_sound r url hr hu scopes h.1)
 
 groups_sound : (groups : List (Message Tables.resource_spans))
-    → AllByRecursion (λ g. AreSoundBy Read Tables.resource_spans g) groups
-    → AllByRecursion IsReadTriple (flat_map resource_triples groups)
+    → AllByRecursion (λ g. IsSoundMessage Tables.resource_spans g) groups
+    → AllByRecursion IsSoundTriple (flat_map resource_triples groups)
 groups_sound [] h = tt
 groups_sound (g ∷ groups) h =
-    all_both IsReadTriple (resource_triples g) (flat_map resource_triples groups)
+    all_both IsSoundTriple (resource_triples g) (flat_map resource_triples groups)
     (scopes_sound g.0 g.1.1.0 h.0.0 h.0.1.1.0 g.1.0 h.0.1.0) (groups_sound groups h.1)
 
--- The spans of bytes that are read without a fault can be read.
+-- The spans of bytes that are read without a fault are sound.
 pub read_is_sound : (body : List ℕ) → IsBytes body → (body_meaning body).faults ≡ []
-    → AllByRecursion IsReadTriple (body_meaning body).value
+    → AllByRecursion IsSoundTriple (body_meaning body).value
 unfolding body_meaning meaning
 read_is_sound body h e =
     let whole = no_more (meaning Tables.request body) e in
     let b = both_nil (row body).faults _ whole in
     groups_sound (read_table (value max_depth) Tables.request (row body).value).value.0
-    (table_sound (value max_depth) Read (value_sound max_depth) Tables.request (row body).value
+    (table_sound (value max_depth) (IsSoundValue max_depth) value_sound Tables.request
+    (row body).value
     (row_read body h b.0) b.1).0

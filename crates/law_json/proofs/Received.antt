@@ -1,4 +1,4 @@
--- What is seen of a value as received is what is seen of it in the model.
+-- What is seen of the member of a value as received is what is seen of it in the model.
 use Rattle.std.proofs.Common.{◌≡◌, refl, sym, ap, ap₂, ◌∙◌, subst, ℕ, List, [], ◌∷◌, ◌++◌}
 use Rattle.std.proofs.Common.{append_assoc}
 use Rattle.std.proofs.Common.{map, codes, String}
@@ -13,22 +13,20 @@ use Rattle.otlp_read.specs.declared.any_value.AnyValue.TheFolds.{fold-roll-AnyVa
 use Rattle.otlp_read.specs.declared.any_value.AnyValue.TheViews.{roll-AnyValue}
 use Rattle.otlp_read.specs.Values.{any_value_view, string_pair, view_step}
 use Rattle.view_json.specs.Seen.{Seen, Other, braces, brackets}
-use Rattle.view_json.specs.Values.{nested, nested_front, pair_step, pair_text, value_seen}
-use Rattle.view_json.specs.Values.{value_step}
+use Rattle.view_json.specs.Values.{member_seen, member_step, nested, nested_front, pair_step}
+use Rattle.view_json.specs.Values.{pair_text}
 use Rattle.law_json.proofs.Values.{pairs_items, value_members, values_items}
 
--- a list of values, or of pairs, in an object of this name
+-- a list of values, or of pairs, in a member of this name
 nested_is : (name : List ℕ) (items : List Seen)
     → nested name items
-    ≡ braces (Other (key name) ∷ braces (Other (key (codes "values")) ∷ brackets items))
+    ≡ Other (key name) ∷ braces (Other (key (codes "values")) ∷ brackets items)
 nested_is name items =
-    let a = Other end_array ∷ [] in
-    let o = Other end_object ∷ [] in
     ap (λ l. nested_front name ++ l)
-    (sym (append_assoc (items ++ a) o o ∙ append_assoc items a (o ++ o)))
+    (sym (append_assoc items (Other end_array ∷ []) (Other end_object ∷ [])))
 
 abbrev seen_value : {A : Type 0} → String A × AnyValue A → String A × List Seen
-seen_value p = (p.0, value_seen p.1)
+seen_value p = (p.0, member_seen p.1)
 
 abbrev viewed_value : {A : Type 0} → String A × AnyValue A → String A × protocol.AnyValue
 viewed_value p = (p.0, any_value_view p.1)
@@ -36,15 +34,15 @@ viewed_value p = (p.0, any_value_view p.1)
 -- what is seen of one layer of a value, and what that is in the model
 abbrev layer_seen : {A : Type 0} → AnyValue-F A (AnyValue A) → List Seen
 layer_seen {A} (AnyValue-F.Array v) =
-    nested (codes "arrayValue") (flat_map (λ item. item) (map value_seen v.items))
+    nested (codes "arrayValue") (flat_map braces (map member_seen v.items))
 layer_seen {A} (AnyValue-F.Pairs v) =
     nested (codes "kvlistValue") (flat_map pair_step (map seen_value v.items))
-layer_seen {A} AnyValue-F.Empty = value_step {A = A} AnyValue-F.Empty
-layer_seen {A} (AnyValue-F.Text t) = value_step {A = A} (AnyValue-F.Text t)
-layer_seen {A} (AnyValue-F.Bool b) = value_step {A = A} (AnyValue-F.Bool b)
-layer_seen {A} (AnyValue-F.Int i) = value_step {A = A} (AnyValue-F.Int i)
-layer_seen {A} (AnyValue-F.Double d) = value_step {A = A} (AnyValue-F.Double d)
-layer_seen {A} (AnyValue-F.Bytes b) = value_step {A = A} (AnyValue-F.Bytes b)
+layer_seen {A} AnyValue-F.Empty = member_step {A = A} AnyValue-F.Empty
+layer_seen {A} (AnyValue-F.Text t) = member_step {A = A} (AnyValue-F.Text t)
+layer_seen {A} (AnyValue-F.Bool b) = member_step {A = A} (AnyValue-F.Bool b)
+layer_seen {A} (AnyValue-F.Int i) = member_step {A = A} (AnyValue-F.Int i)
+layer_seen {A} (AnyValue-F.Double d) = member_step {A = A} (AnyValue-F.Double d)
+layer_seen {A} (AnyValue-F.Bytes b) = member_step {A = A} (AnyValue-F.Bytes b)
 
 abbrev layer_view : {A : Type 0} → AnyValue-F A (AnyValue A) → protocol.AnyValue
 layer_view {A} (AnyValue-F.Array v) =
@@ -60,21 +58,21 @@ layer_view {A} (AnyValue-F.Double d) = view_step {A = A} (AnyValue-F.Double d)
 layer_view {A} (AnyValue-F.Bytes b) = view_step {A = A} (AnyValue-F.Bytes b)
 
 module _ {A : Type 0} where
-  seen_rolled : (x : AnyValue-F A (AnyValue A)) → value_seen (roll-AnyValue A x) ≡ layer_seen x
-  seen_rolled AnyValue-F.Empty = fold-roll-AnyValue A (List Seen) value_step AnyValue-F.Empty
+  seen_rolled : (x : AnyValue-F A (AnyValue A)) → member_seen (roll-AnyValue A x) ≡ layer_seen x
+  seen_rolled AnyValue-F.Empty = fold-roll-AnyValue A (List Seen) member_step AnyValue-F.Empty
   seen_rolled (AnyValue-F.Text t) =
-      fold-roll-AnyValue A (List Seen) value_step (AnyValue-F.Text t)
+      fold-roll-AnyValue A (List Seen) member_step (AnyValue-F.Text t)
   seen_rolled (AnyValue-F.Bool b) =
-      fold-roll-AnyValue A (List Seen) value_step (AnyValue-F.Bool b)
-  seen_rolled (AnyValue-F.Int i) = fold-roll-AnyValue A (List Seen) value_step (AnyValue-F.Int i)
+      fold-roll-AnyValue A (List Seen) member_step (AnyValue-F.Bool b)
+  seen_rolled (AnyValue-F.Int i) = fold-roll-AnyValue A (List Seen) member_step (AnyValue-F.Int i)
   seen_rolled (AnyValue-F.Double d) =
-      fold-roll-AnyValue A (List Seen) value_step (AnyValue-F.Double d)
+      fold-roll-AnyValue A (List Seen) member_step (AnyValue-F.Double d)
   seen_rolled (AnyValue-F.Array v) =
-      fold-roll-AnyValue A (List Seen) value_step (AnyValue-F.Array v)
+      fold-roll-AnyValue A (List Seen) member_step (AnyValue-F.Array v)
   seen_rolled (AnyValue-F.Pairs v) =
-      fold-roll-AnyValue A (List Seen) value_step (AnyValue-F.Pairs v)
+      fold-roll-AnyValue A (List Seen) member_step (AnyValue-F.Pairs v)
   seen_rolled (AnyValue-F.Bytes b) =
-      fold-roll-AnyValue A (List Seen) value_step (AnyValue-F.Bytes b)
+      fold-roll-AnyValue A (List Seen) member_step (AnyValue-F.Bytes b)
 
   view_rolled : (x : AnyValue-F A (AnyValue A)) → any_value_view (roll-AnyValue A x) ≡ layer_view x
   view_rolled AnyValue-F.Empty =
@@ -94,20 +92,20 @@ module _ {A : Type 0} where
   view_rolled (AnyValue-F.Bytes b) =
       fold-roll-AnyValue A protocol.AnyValue view_step (AnyValue-F.Bytes b)
 
--- A value is seen as its value in the model is.
+-- The member of a value is seen as that of its value in the model is.
 abbrev Agrees : {A : Type 0} → AnyValue A → Type 0
-Agrees v = value_seen v ≡ braces (value_members (any_value_view v))
+Agrees v = member_seen v ≡ value_members (any_value_view v)
 
 -- values with what is known of each
 abbrev Known : Type 0 → Type 0
 Known A = (v : AnyValue A) × Agrees v
 
 values_are : {A : Type 0} (es : List (Known A))
-    → flat_map (λ item. item) (map value_seen (map (λ e. e.0) es))
+    → flat_map braces (map member_seen (map (λ e. e.0) es))
     ≡ values_items (as_values (map any_value_view (map (λ e. e.0) es)))
 unfolding value_members
 values_are [] = refl
-values_are (e ∷ es) = ap₂ (λ a b. a ++ b) e.1 (values_are es)
+values_are (e ∷ es) = ap₂ (λ a b. braces a ++ b) e.1 (values_are es)
 
 abbrev known_value : {A : Type 0} → String A × Known A → String A × AnyValue A
 known_value p = (p.0, p.1.0)
@@ -121,7 +119,7 @@ pairs_are (e ∷ es) =
     ap₂ (λ v l. pair_text (string_bytes e.0) v ++ l) e.1.1 (pairs_are es)
 
 abbrev LayerAgrees : {A : Type 0} → AnyValue-F A (AnyValue A) → Type 0
-LayerAgrees x = layer_seen x ≡ braces (value_members (layer_view x))
+LayerAgrees x = layer_seen x ≡ value_members (layer_view x)
 
 -- A layer agrees where each value in it does.
 known_agrees : {A : Type 0} (y : AnyValue-F A (Known A))
@@ -138,8 +136,8 @@ known_agrees (AnyValue-F.Pairs v) =
     ap (nested (codes "kvlistValue")) (pairs_are v.items) ∙ nested_is (codes "kvlistValue") _
 known_agrees (AnyValue-F.Bytes b) = refl
 
--- A value as received is seen as its value in the model.
-pub value_is : {A : Type 0} (v : AnyValue A) → Agrees v
-value_is {A} = ind-AnyValue A Agrees (λ x y is.
+-- The member of a value as received is seen as that of its value in the model.
+pub member_is : {A : Type 0} (v : AnyValue A) → Agrees v
+member_is {A} = ind-AnyValue A Agrees (λ x y is.
     seen_rolled x ∙ subst LayerAgrees is (known_agrees y)
-    ∙ ap (λ w. braces (value_members w)) (sym (view_rolled x)))
+    ∙ ap value_members (sym (view_rolled x)))

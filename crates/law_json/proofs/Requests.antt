@@ -52,7 +52,7 @@ one_item objects n inner what fields h =
     (append-nil (braces what))
     (then_items objects n inner what [] fields [] h (no_items objects n inner))
 
-scope_spans_takes : (depth : ℕ) (t : Triple) → 190 ≤ depth → IsSoundTriple t
+scope_spans_takes : (depth : ℕ) (t : Triple) → 191 ≤ depth → IsSoundTriple t
     → TakesObject (object (suc (suc (suc (suc (suc depth)))))) messages.scope_spans
     (scope_spans_seen t) (scope_spans_row t)
 unfolding member_named scope_spans_member
@@ -109,7 +109,7 @@ resource_spans_row t =
     message_field 1 (Parts.resource_row t.resource) ∷ message_field 2 (scope_spans_row t)
     ∷ bytes_field 3 t.resource_schema ∷ []
 
-resource_spans_takes : (depth : ℕ) (t : Triple) → 190 ≤ depth → IsSoundTriple t
+resource_spans_takes : (depth : ℕ) (t : Triple) → 191 ≤ depth → IsSoundTriple t
     → TakesObject (object (suc (suc (suc (suc (suc (suc depth))))))) messages.resource_spans
     (resource_spans_seen t) (resource_spans_row t)
 unfolding member_named resource_spans_member

@@ -56,7 +56,7 @@ abbrev pub link_row : Message Tables.link → List Field
 link_row l = link_front l ++ (Parts.pairs_rows 4 l.1.1.1.0 ++ link_end l)
 
 -- A link means its fields.
-pub link_takes : (depth : ℕ) (l : Message Tables.link) → 190 ≤ depth → IsSoundMessage Tables.link l
+pub link_takes : (depth : ℕ) (l : Message Tables.link) → 191 ≤ depth → IsSoundMessage Tables.link l
     → TakesObject (object (suc (suc (suc depth)))) messages.link (link_seen l) (link_row l)
 unfolding member_named link_member
 link_takes depth l room h =
@@ -176,7 +176,7 @@ span_row s =
     ++ (rows 13 link_row s.1.1.1.1.1.1.1.1.1.1.1.1.0 ++ span_end s)))))
 
 -- A span means its fields.
-pub span_takes : (depth : ℕ) (s : Message Tables.span) → 190 ≤ depth → IsSoundMessage Tables.span s
+pub span_takes : (depth : ℕ) (s : Message Tables.span) → 191 ≤ depth → IsSoundMessage Tables.span s
     → TakesObject (object (suc (suc (suc (suc depth))))) messages.span (span_seen s) (span_row s)
 unfolding member_named span_member more_of_span
 span_takes depth s room h =

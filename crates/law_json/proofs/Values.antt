@@ -23,8 +23,9 @@ use Rattle.otlp_json.specs.LeafNames as leaves
 use Rattle.otlp_json.specs.MessageNames.{AnyMessage}
 use Rattle.otlp_json.specs.MessageNames as messages
 use Rattle.view_json.specs.Seen.{Seen, Other, braces, brackets, float_seen}
+use Rattle.view_json.specs.Values.{value_member}
 use Rattle.law_json.specs.Back.{double_back}
-use Rattle.law_json.specs.Sound.{IsSoundValue}
+use Rattle.law_json.specs.Sound.{IsPairValue, IsSoundValue}
 use Rattle.law_json.proofs.Fronts.{Takes, TakesItems, TakesMembers, TakesObject, each_member}
 use Rattle.law_json.proofs.Fronts.{leaf_member}
 use Rattle.law_json.proofs.Fronts.{nested_member, no_items, no_members, object_takes, then_items}
@@ -62,11 +63,15 @@ unfoldable mutual
   pairs_items no_pairs = []
   pairs_items (pair k v ps) =
       braces
-      (Other (key (codes "key")) ∷ Other (string k) ∷ Other (key (codes "value"))
-      ∷ braces (value_members v))
+      (Other (key (codes "key")) ∷ Other (string k) ∷ value_member (value_members v))
       ++ pairs_items ps
 
 -- ---- the fields that it means
+
+-- the field of a pair whose value has these fields: one that has none is left out
+abbrev pub value_fields : List Field → List Field
+value_fields [] = []
+value_fields (f ∷ fields) = message_field 2 (f ∷ fields) ∷ []
 
 unfoldable mutual
   -- the one field of a value
@@ -89,11 +94,11 @@ unfoldable mutual
   pub pairs_row : KeyValues → List Field
   pairs_row no_pairs = []
   pairs_row (pair k v ps) =
-      message_field 1 (bytes_field 1 k ∷ message_field 2 (value_row v) ∷ []) ∷ pairs_row ps
+      message_field 1 (bytes_field 1 k ∷ value_fields (value_row v)) ∷ pairs_row ps
 
 -- the fields of a pair
 abbrev pub pair_row : List ℕ → AnyValue → List Field
-pair_row k v = bytes_field 1 k ∷ message_field 2 (value_row v) ∷ []
+pair_row k v = bytes_field 1 k ∷ value_fields (value_row v)
 
 -- ---- a text means these fields
 
@@ -103,28 +108,38 @@ value_object : (depth : ℕ) (v : AnyValue)
     → TakesObject (object (suc depth)) messages.any_value (value_members v) (value_row v)
 value_object depth v h = object_takes depth messages.any_value (value_members v) (value_row v) h
 
--- A pair, whose value is taken two levels deeper.
-pub pair_takes : (depth : ℕ) (k : List ℕ) (v : AnyValue)
+-- The member of a pair's value is taken as its field.
+abbrev TakesValue : (depth : ℕ) → AnyValue → Type 0
+TakesValue depth v =
+    TakesMembers (object depth) messages.key_value (value_member (value_members v))
+    (value_fields (value_row v))
+
+-- A value in an object, as the member of a pair.
+value_held : (depth : ℕ) (v : AnyValue)
     → TakesMembers (object depth) messages.any_value (value_members v) (value_row v)
-    → TakesObject (object (suc (suc depth))) messages.key_value
-    (Other (key (codes "key")) ∷ Other (string k) ∷ Other (key (codes "value"))
-    ∷ braces (value_members v))
-    (pair_row k v)
+    → TakesMembers (object (suc depth)) messages.key_value
+    (Other (key (codes "value")) ∷ braces (value_members v)) (message_field 2 (value_row v) ∷ [])
 unfolding member_named key_value_member
-pair_takes depth k v h =
+value_held depth v h =
     let objects = object (suc depth) in
-    object_takes (suc depth) messages.key_value _ (pair_row k v)
-    (then_members objects messages.key_value (codes "key") (Other (string k) ∷ [])
-    (Other (key (codes "value")) ∷ braces (value_members v)) (bytes_field 1 k ∷ [])
-    (message_field 2 (value_row v) ∷ [])
-    (leaf_member objects 1 leaves.text (Other (string k)) (len k) (text_means k))
-    (subst (λ w. TakesMembers objects messages.key_value w (message_field 2 (value_row v) ∷ []))
+    subst (λ w. TakesMembers objects messages.key_value w (message_field 2 (value_row v) ∷ []))
     (ap (λ l. Other (key (codes "value")) ∷ l) (append-nil (braces (value_members v))))
     (then_members objects messages.key_value (codes "value") (braces (value_members v)) []
     (message_field 2 (value_row v) ∷ []) []
     (nested_member objects 2 messages.any_value (value_members v) (value_row v)
     (value_object depth v h))
-    (no_members objects messages.key_value))))
+    (no_members objects messages.key_value))
+
+-- A pair, where the member of its value is taken.
+pub pair_takes : (depth : ℕ) (k : List ℕ) (v : AnyValue) → TakesValue depth v
+    → TakesObject (object (suc depth)) messages.key_value
+    (Other (key (codes "key")) ∷ Other (string k) ∷ value_member (value_members v)) (pair_row k v)
+unfolding member_named key_value_member
+pair_takes depth k v h =
+    object_takes depth messages.key_value _ (pair_row k v)
+    (then_members (object depth) messages.key_value (codes "key") (Other (string k) ∷ [])
+    (value_member (value_members v)) (bytes_field 1 k ∷ []) (value_fields (value_row v))
+    (leaf_member (object depth) 1 leaves.text (Other (string k)) (len k) (text_means k)) h)
 
 module _ (P : AnyValue → Type 0) where
   values_take : (depth : ℕ)
@@ -139,15 +154,13 @@ module _ (P : AnyValue → Type 0) where
       (value_row v) (values_row vs) (value_object depth v (take v h.0))
       (values_take depth take vs h.1)
 
-  pairs_take : (depth : ℕ)
-      → ((v : AnyValue) → P v
-      → TakesMembers (object depth) messages.any_value (value_members v) (value_row v))
-      → (ps : KeyValues) → EachPair P ps
-      → TakesItems (object (suc (suc depth))) 1 messages.key_value (pairs_items ps) (pairs_row ps)
+  pairs_take : (depth : ℕ) → ((v : AnyValue) → P v → TakesValue depth v) → (ps : KeyValues)
+      → EachPair P ps
+      → TakesItems (object (suc depth)) 1 messages.key_value (pairs_items ps) (pairs_row ps)
   unfolding value_members value_row
-  pairs_take depth take no_pairs h = no_items (object (suc (suc depth))) 1 messages.key_value
+  pairs_take depth take no_pairs h = no_items (object (suc depth)) 1 messages.key_value
   pairs_take depth take (pair k v ps) h =
-      then_items (object (suc (suc depth))) 1 messages.key_value _ (pairs_items ps) (pair_row k v)
+      then_items (object (suc depth)) 1 messages.key_value _ (pairs_items ps) (pair_row k v)
       (pairs_row ps) (pair_takes depth k v (take v h.1)) (pairs_take depth take ps h.2)
 
 -- one member, which is all
@@ -191,34 +204,50 @@ pairs_named : member_named messages.key_value_list (codes "values")
 unfolding member_named key_value_list_member
 pairs_named = refl
 
--- what is taken of a value of a number of levels, where each takes three objects
-abbrev Taking : ℕ → Type 0
+-- What is taken of a value of a number of levels, where each takes three objects: after the last
+-- one there may be a pair without a value.
+abbrev pub Taking : ℕ → Type 0
 Taking levels =
-    (depth : ℕ) (v : AnyValue) → IsSoundValue levels v → 3 * levels ≤ depth + 2
+    (depth : ℕ) (v : AnyValue) → IsSoundValue levels v → 3 * levels ≤ depth + 1
     → TakesMembers (object depth) messages.any_value (value_members v) (value_row v)
 
+-- What holds of a value holds of it in a pair.
+pub sound_in_pair : (P : AnyValue → Type 0) (v : AnyValue) → P v → IsPairValue P v
+sound_in_pair P AnyValue.none h = tt
+sound_in_pair P (AnyValue.text t) h = h
+sound_in_pair P (AnyValue.bool b) h = h
+sound_in_pair P (AnyValue.int i) h = h
+sound_in_pair P (AnyValue.double d) h = h
+sound_in_pair P (AnyValue.array vs) h = h
+sound_in_pair P (AnyValue.pairs ps) h = h
+sound_in_pair P (AnyValue.bytes bs) h = h
+
+-- The value of a pair is taken: one that is none takes no level, and any other those that it has.
+pub value_taken : (levels depth : ℕ) (v : AnyValue) → Taking levels
+    → IsPairValue (IsSoundValue levels) v → 3 * levels ≤ depth → TakesValue depth v
+unfolding IsSoundValue value_members value_row
+value_taken levels depth AnyValue.none take h room = no_members (object depth) messages.key_value
+value_taken zero depth v take h room = absurd h
+value_taken (suc levels) zero v take h room = absurd (omega (arith, room))
+value_taken (suc levels) (suc depth) v take h room =
+    value_held depth v (take depth v h (omega (arith, room)))
+
 array_items : (levels depth : ℕ) (vs : AnyValues) → Taking levels
-    → EachValue (IsSoundValue levels) vs → 3 * levels ≤ depth
+    → EachValue (IsSoundValue levels) vs → 3 * levels + 1 ≤ depth
     → TakesItems (object depth) 1 messages.any_value (values_items vs) (values_row vs)
 unfolding IsSoundValue value_members value_row
-array_items levels depth no_values take h room = no_items (object depth) 1 messages.any_value
-array_items zero depth (protocol.value v vs) take h room = absurd h.0
-array_items (suc levels) zero (protocol.value v vs) take h room = absurd (omega (arith, room))
-array_items (suc levels) (suc depth) (protocol.value v vs) take h room =
-    values_take (IsSoundValue (suc levels)) depth (λ w k. take depth w k (omega (arith, room)))
-    (protocol.value v vs) h
+array_items levels zero vs take h room = absurd (omega (arith, room))
+array_items levels (suc depth) vs take h room =
+    values_take (IsSoundValue levels) depth (λ w k. take depth w k (omega (arith, room))) vs h
 
 list_items : (levels depth : ℕ) (ps : KeyValues) → Taking levels
-    → EachPair (IsSoundValue levels) ps → 3 * levels ≤ depth
+    → EachPair (IsPairValue (IsSoundValue levels)) ps → 3 * levels + 1 ≤ depth
     → TakesItems (object depth) 1 messages.key_value (pairs_items ps) (pairs_row ps)
 unfolding IsSoundValue value_members value_row
-list_items levels depth no_pairs take h room = no_items (object depth) 1 messages.key_value
-list_items zero depth (pair k v ps) take h room = absurd h.1
-list_items (suc levels) zero (pair k v ps) take h room = absurd (omega (arith, room))
-list_items (suc levels) (suc zero) (pair k v ps) take h room = absurd (omega (arith, room))
-list_items (suc levels) (suc (suc depth)) (pair k v ps) take h room =
-    pairs_take (IsSoundValue (suc levels)) depth (λ w j. take depth w j (omega (arith, room)))
-    (pair k v ps) h
+list_items levels zero ps take h room = absurd (omega (arith, room))
+list_items levels (suc depth) ps take h room =
+    pairs_take (IsPairValue (IsSoundValue levels)) depth
+    (λ w j. value_taken levels depth w take j (omega (arith, room))) ps h
 
 -- A value means its fields.
 pub value_takes : (levels : ℕ) → Taking levels

@@ -9,22 +9,22 @@ use Rattle.model_message.specs.AnyValue as protocol
 use Rattle.model_message.specs.AnyValue.{AnyValue, AnyValues, no_values, KeyValues, no_pairs, pair}
 use Rattle.model_message.specs.AnyValue.{as_values, as_pairs}
 use Rattle.model_message.specs.Reading.{◌>>=◌, done, each}
-use Rattle.model_message.specs.Wire.{varint, len}
+use Rattle.model_message.specs.Wire.{Field, varint, len}
 use Rattle.model_message.specs.Tables.{Message, bool, any, message, repeated, key_value}
 use Rattle.model_message.specs.Tables.{array_value}
 use Rattle.model_message.specs.Tables.{key_value_list}
 use Rattle.model_message.specs.Messages.{PayloadReading, read, read_table, payloads, value}
-use Rattle.model_message.specs.Messages.{value_of}
+use Rattle.model_message.specs.Messages.{joined_rows, value_of}
 use Rattle.model_message.specs.Messages.{member_of}
-use Rattle.model_message.specs.Canon.{row_bytes}
+use Rattle.model_message.specs.Canon.{bytes_field, row_bytes}
 use Rattle.model_message.specs.Whole.{EachValue, EachPair}
 use Rattle.model_message.proofs.RowLaws.{HasPayload, HaveSpellings, row-row_bytes}
 use Rattle.model_message.proofs.ReadBack.{utf8-ok, joined-one}
 use Rattle.otlp_json.specs.Numbers.{nan_bits}
 use Rattle.law_json.specs.Back.{value_back, values_back, pairs_back, double_back}
-use Rattle.law_json.specs.Sound.{IsSoundMember, IsSoundValue}
+use Rattle.law_json.specs.Sound.{IsPairValue, IsSoundMember, IsSoundValue}
 use Rattle.law_json.proofs.Rows.{both, bytes_below, message_read, spelled_bytes}
-use Rattle.law_json.proofs.Values.{pair_row, pairs_row, value_row, values_row}
+use Rattle.law_json.proofs.Values.{pair_row, pairs_row, value_fields, value_row, values_row}
 
 -- ---- lists
 
@@ -49,15 +49,20 @@ as_pairs_list (pair k v ps) = ap (pair k (value_back v)) (as_pairs_list ps)
 
 -- ---- what is written has a spelling
 
+-- The field of a pair's value has a spelling.
+field_spelled : (fields : List Field) → length (row_bytes (value_fields fields)) < 2 ^ 64
+    → HaveSpellings (value_fields fields)
+field_spelled [] small = tt
+field_spelled (f ∷ fields) small =
+    let b = bytes_below 2 (row_bytes (f ∷ fields)) [] (2 ^ 64) small in
+    (spelled_bytes 2 (row_bytes (f ∷ fields)) (omega arith) (omega arith) b.0, tt)
+
 -- The fields of a pair have spellings.
 pub pair_spelled : (k : List ℕ) (v : AnyValue) → length (row_bytes (pair_row k v)) < 2 ^ 64
     → HaveSpellings (pair_row k v)
 pair_spelled k v small =
-    let b = bytes_below 1 k _ (2 ^ 64) small in
-    let c = bytes_below 2 (row_bytes (value_row v)) [] (2 ^ 64) b.1 in (
-      spelled_bytes 1 k (omega arith) (omega arith) b.0,
-      (spelled_bytes 2 (row_bytes (value_row v)) (omega arith) (omega arith) c.0, tt),
-    )
+    let b = bytes_below 1 k (value_fields (value_row v)) (2 ^ 64) small in
+    (spelled_bytes 1 k (omega arith) (omega arith) b.0, field_spelled (value_row v) b.1)
 
 values_spelled : (vs : AnyValues) → length (row_bytes (values_row vs)) < 2 ^ 64
     → HaveSpellings (values_row vs)
@@ -113,25 +118,42 @@ ReadsBack deeper v =
     length (row_bytes (value_row v)) < 2 ^ 64
     → deeper (len (row_bytes (value_row v)) ∷ []) ≡ done (value_back v)
 
-pair_table : (deeper : PayloadReading AnyValue) (k : List ℕ) (v : AnyValue) → is_utf8 k ≡ true
-    → deeper (len (row_bytes (value_row v)) ∷ []) ≡ done (value_back v)
-    → read_table deeper key_value (pair_row k v) ≡ done (k, (value_back v, tt))
+-- The value of a pair is read of its field, if it has one.
+abbrev pub ReadsInPair : PayloadReading AnyValue → AnyValue → Type 0
+ReadsInPair deeper v =
+    length (row_bytes (value_fields (value_row v))) < 2 ^ 64
+    → deeper (payloads 2 any (value_fields (value_row v))) ≡ done (value_back v)
+
+-- A value that is read by itself is read in a pair.
+pub reads_in_pair : (deeper : PayloadReading AnyValue) (P : AnyValue → Type 0)
+    → deeper [] ≡ done AnyValue.none → ((v : AnyValue) → P v → ReadsBack deeper v)
+    → (v : AnyValue) → IsPairValue P v → ReadsInPair deeper v
+unfolding payloads value_row value_back
+reads_in_pair deeper P nothing back AnyValue.none h small = nothing
+reads_in_pair deeper P nothing back v h small =
+    back v h (bytes_below 2 (row_bytes (value_row v)) [] (2 ^ 64) small).0
+
+pair_table : (deeper : PayloadReading AnyValue) (k : List ℕ) (fields : List Field) (v : AnyValue)
+    → is_utf8 k ≡ true → deeper (payloads 2 any (value_fields fields)) ≡ done v
+    → read_table deeper key_value (bytes_field 1 k ∷ value_fields fields) ≡ done (k, (v, tt))
 unfolding read payloads
-pair_table deeper k v text back =
+pair_table deeper k [] v text back =
+    ap₂ (λ p q. both p (both q (done tt))) (utf8-ok k text) back
+pair_table deeper k (f ∷ fields) v text back =
     ap₂ (λ p q. both p (both q (done tt))) (utf8-ok k text) back
 
 -- A pair is read, where its value is.
 pub pair_read : (deeper : PayloadReading AnyValue) (k : List ℕ) (v : AnyValue) → is_utf8 k ≡ true
-    → length (row_bytes (pair_row k v)) < 2 ^ 64 → ReadsBack deeper v
+    → length (row_bytes (pair_row k v)) < 2 ^ 64 → ReadsInPair deeper v
     → read deeper (message key_value) (len (row_bytes (pair_row k v)) ∷ [])
     ≡ done (k, (value_back v, tt))
 pair_read deeper k v text small back =
-    let b = bytes_below 1 k _ (2 ^ 64) small in
-    let c = bytes_below 2 (row_bytes (value_row v)) [] (2 ^ 64) b.1 in
+    let b = bytes_below 1 k (value_fields (value_row v)) (2 ^ 64) small in
     message_read deeper key_value (pair_row k v) (k, (value_back v, tt)) (pair_spelled k v small)
-    (pair_table deeper k v text (back c.0))
+    (pair_table deeper k (value_row v) (value_back v) text (back b.1))
 
 module _ (deeper : PayloadReading AnyValue) (P : AnyValue → Type 0)
+    (nothing : deeper [] ≡ done AnyValue.none)
     (back : (v : AnyValue) → P v → ReadsBack deeper v) where
   values_each : (vs : AnyValues) → EachValue P vs → length (row_bytes (values_row vs)) < 2 ^ 64
       → each (λ p. read deeper any (p ∷ [])) (payloads 1 (repeated any) (values_row vs))
@@ -143,7 +165,8 @@ module _ (deeper : PayloadReading AnyValue) (P : AnyValue → Type 0)
       ap₂ (λ p q. p >>= λ x. q >>= λ xs. done (x ∷ xs)) (back v h.0 b.0) (values_each vs h.1 b.1)
 
   -- The pairs of a list are read as what comes back.
-  pub pairs_each : (ps : KeyValues) → EachPair P ps → length (row_bytes (pairs_row ps)) < 2 ^ 64
+  pub pairs_each : (ps : KeyValues) → EachPair (IsPairValue P) ps
+      → length (row_bytes (pairs_row ps)) < 2 ^ 64
       → each (λ p. read deeper (message key_value) (p ∷ []))
       (payloads 1 (repeated (message key_value)) (pairs_row ps))
       ≡ done (pairs_list ps)
@@ -152,7 +175,8 @@ module _ (deeper : PayloadReading AnyValue) (P : AnyValue → Type 0)
   pairs_each (pair k v ps) h small =
       let b = bytes_below 1 (row_bytes (pair_row k v)) (pairs_row ps) (2 ^ 64) small in
       ap₂ (λ p q. p >>= λ x. q >>= λ xs. done (x ∷ xs))
-      (pair_read deeper k v h.0 b.0 (back v h.1)) (pairs_each ps h.2 b.1)
+      (pair_read deeper k v h.0 b.0 (reads_in_pair deeper P nothing back v h.1))
+      (pairs_each ps h.2 b.1)
 
   array_read : (vs : AnyValues) → EachValue P vs → length (row_bytes (values_row vs)) < 2 ^ 64
       → read deeper (message array_value) (len (row_bytes (values_row vs)) ∷ [])
@@ -162,7 +186,8 @@ module _ (deeper : PayloadReading AnyValue) (P : AnyValue → Type 0)
       message_read deeper array_value (values_row vs) (list_back vs, tt) (values_spelled vs small)
       (ap (λ p. both p (done tt)) (values_each vs h small))
 
-  list_read : (ps : KeyValues) → EachPair P ps → length (row_bytes (pairs_row ps)) < 2 ^ 64
+  list_read : (ps : KeyValues) → EachPair (IsPairValue P) ps
+      → length (row_bytes (pairs_row ps)) < 2 ^ 64
       → read deeper (message key_value_list) (len (row_bytes (pairs_row ps)) ∷ [])
       ≡ done (pairs_list ps, tt)
   unfolding read
@@ -197,6 +222,12 @@ module _ (deeper : PayloadReading AnyValue) (P : AnyValue → Type 0)
       ∙ ap (λ z. done (AnyValue.pairs z)) (as_pairs_list ps)
   member_read (AnyValue.bytes bs) h small = refl
 
+-- No payload is no value.
+pub nothing_read : (levels : ℕ) → value levels [] ≡ done AnyValue.none
+unfolding value joined_rows
+nothing_read zero = refl
+nothing_read (suc levels) = refl
+
 -- A value is read as it comes back.
 pub value_read : (levels : ℕ) (v : AnyValue) → IsSoundValue levels v → ReadsBack (value levels) v
 unfolding value IsSoundValue
@@ -206,4 +237,5 @@ value_read (suc levels) v h small =
     r >>= λ fields. value_of (value levels) (reverse (filter (λ f. is_some (member_of f)) fields)))
     (joined-one (row_bytes (value_row v)) (value_row v)
     (row-row_bytes (value_row v) (value_spelled (IsSoundValue levels) v h small)))
-    ∙ member_read (value levels) (IsSoundValue levels) (value_read levels) v h small
+    ∙ member_read (value levels) (IsSoundValue levels) (nothing_read levels) (value_read levels) v h
+    small

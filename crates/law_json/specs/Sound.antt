@@ -14,6 +14,11 @@ use Rattle.model_message.specs.Tables.{fixed32, any, message, repeated, Table, e
 use Rattle.model_message.specs.Tables.{Message}
 use Rattle.model_message.specs.Whole.{IsText, EachValue, EachPair}
 
+-- the value of a pair: one of which this holds, or none
+abbrev pub IsPairValue : (AnyValue → Type 0) → AnyValue → Type 0
+IsPairValue P AnyValue.none = Unit {0}
+IsPairValue P v = P v
+
 -- the value by its kind, where of those in it this holds
 abbrev pub IsSoundMember : (AnyValue → Type 0) → AnyValue → Type 0
 IsSoundMember P AnyValue.none = Unit {0}
@@ -22,19 +27,14 @@ IsSoundMember P (AnyValue.bool b) = Unit {0}
 IsSoundMember P (AnyValue.int i) = SFits w64 i
 IsSoundMember P (AnyValue.double d) = d < 2 ^ 64
 IsSoundMember P (AnyValue.array vs) = EachValue P vs
-IsSoundMember P (AnyValue.pairs ps) = EachPair P ps
+IsSoundMember P (AnyValue.pairs ps) = EachPair (IsPairValue P) ps
 IsSoundMember P (AnyValue.bytes bs) = IsBytes bs
 
--- a value with at most this number of levels
+-- A value with at most this number of levels. One that is none takes a level in an array, where it
+-- is written, empty; a pair is written without it.
 unfoldable pub IsSoundValue : ℕ → AnyValue → Type 0
 IsSoundValue zero v = ⊥
 IsSoundValue (suc depth) v = IsSoundMember (IsSoundValue depth) v
-
--- A value that was read, where so many levels may be left: past the last one it is none, as that of
--- a pair without a value is.
-unfoldable pub IsReadValue : ℕ → AnyValue → Type 0
-IsReadValue zero v = v ≡ AnyValue.none
-IsReadValue (suc depth) v = IsSoundMember (IsReadValue depth) v
 
 -- ---- messages, whose values are such that this holds
 
@@ -58,14 +58,6 @@ abbrev mutual
   AreSoundBy P end r = Unit {0}
   AreSoundBy P (n ⦂ s ◂ t) r = IsSoundBy P s r.0 × AreSoundBy P t r.1
 
--- a span, with its resource and its scope
-pub record IsTripleBy (P : AnyValue → Type 0) (t : Triple) : Type 0 where
-  pub resource : AreSoundBy P Tables.resource t.resource
-  pub resource_schema : IsText t.resource_schema
-  pub scope : AreSoundBy P Tables.scope t.scope
-  pub scope_schema : IsText t.scope_schema
-  pub span : AreSoundBy P Tables.span t.span
-
 -- the same where values nest no deeper than 64 levels
 abbrev pub IsSound : (s : Shape) → ValueOf s → Type 0
 IsSound s x = IsSoundBy (IsSoundValue max_depth) s x
@@ -73,9 +65,10 @@ IsSound s x = IsSoundBy (IsSoundValue max_depth) s x
 abbrev pub IsSoundMessage : (t : Table) → Message t → Type 0
 IsSoundMessage t r = AreSoundBy (IsSoundValue max_depth) t r
 
-abbrev pub IsSoundTriple : Triple → Type 0
-IsSoundTriple t = IsTripleBy (IsSoundValue max_depth) t
-
--- A span as it was read. Pairs at the 64th level may be without a value, which is none.
-abbrev pub IsReadTriple : Triple → Type 0
-IsReadTriple t = IsTripleBy (IsReadValue max_depth) t
+-- a span, with its resource and its scope
+pub record IsSoundTriple (t : Triple) : Type 0 where
+  pub resource : IsSoundMessage Tables.resource t.resource
+  pub resource_schema : IsText t.resource_schema
+  pub scope : IsSoundMessage Tables.scope t.scope
+  pub scope_schema : IsText t.scope_schema
+  pub span : IsSoundMessage Tables.span t.span

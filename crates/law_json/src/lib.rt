@@ -5,7 +5,7 @@
 
 pub mod worked;
 
-ghost use Rattle.law_json.specs.Laws.{ReadIsSound, TraceIsReadBack};
+ghost use Rattle.law_json.specs.Laws.{ReadIsSound, ReceivedIsReadBack, TraceIsReadBack};
 
 use std::alloc::Allocator;
 
@@ -14,14 +14,19 @@ use std::alloc::Allocator;
 /// scope of its own: identifiers, names, times, flags, attributes with each kind of value, events,
 /// links, counts, status, schema URLs. A double that is no number comes back as the one that JSON
 /// has, with the bits `7ff8000000000000`. The spans are such as a body can mean: texts are UTF-8,
-/// numbers have their room, and values nest no deeper than 64 levels.
+/// numbers have their room, and values nest no deeper than 64 levels. The value of a pair takes no
+/// level where it is empty, since it is left out; one of an array does. (The levels: profile)
 pub fn trace_is_read_back<A: Allocator>()
     ensures { TraceIsReadBack A }
 {}
 
-/// Each span that a body means without a fault is one as the law above takes it, but for one thing:
-/// a pair at the 64th level may be without a value. Such a pair is written with an empty value, at
-/// the 65th level. (The levels: profile)
+/// Each span that a body means without a fault is one as the law above takes it.
 pub fn read_is_sound()
     ensures { ReadIsSound }
+{}
+
+/// So the first law holds of all spans that were read without a fault, of one body or of several,
+/// whatever is in them.
+pub fn received_is_read_back<A: Allocator>()
+    ensures { ReceivedIsReadBack A }
 {}
