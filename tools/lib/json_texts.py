@@ -188,8 +188,9 @@ def is_whole(value):
     return not isinstance(value, str) or not re.search("[\ud800-\udfff]", value)
 
 
+TRACE = "5b8efff798038103d269b633813fc60c"
 SPAN = (
-    '{"traceId":"5b8efff798038103d269b633813fc60c","spanId":"eee19b7ec3c1b174","traceState":"",'
+    f'{{"traceId":"{TRACE}","spanId":"eee19b7ec3c1b174","traceState":"",'
     '"parentSpanId":"","name":"I\\u00e9\\ud83d\\ude00","kind":2,"startTimeUnixNano":"1544712660",'
     '"endTimeUnixNano":1.5e9,"attributes":[%s],"droppedAttributesCount":1,'
     '"events":[{"timeUnixNano":"7","name":"e","attributes":[]}],'
@@ -203,11 +204,18 @@ VALUES = (
     '{"kvlistValue":{"values":[{"key":"k","value":{"bytesValue":"+/8="}}]}}', "{}", "null",
 )
 PAIR = ",".join(f'{{"key":"k","value":{it}}}' for it in VALUES)
-TEXT = (
-    '{"resourceSpans":[{"resource":{"attributes":[{"key":"service.name","value":{"stringValue":'
-    f'"shop"}}}}]}},"scopeSpans":[{{"scope":{{"name":"s","version":"1"}},"spans":[{SPAN % PAIR}],'
-    '"schemaUrl":"u"}],"schemaUrl":""}]}'
-).encode()
+
+
+def with_pairs(pairs):
+    """The text of a request of one span, which has these attributes."""
+    return (
+        '{"resourceSpans":[{"resource":{"attributes":[{"key":"service.name","value":{"stringValue":'
+        '"shop"}}]},"scopeSpans":[{"scope":{"name":"s","version":"1"},"spans":['
+        f'{SPAN % pairs}],"schemaUrl":"u"}}],"schemaUrl":""}}]}}'
+    ).encode()
+
+
+TEXT = with_pairs(PAIR)
 # What a text is changed by: parts of other texts.
 PARTS = [
     b"null", b"{}", b"[]", b"[null]", b"1", b"-0", b"1e3", b"1.0", b"0.5", b"-1", b"4294967296",
