@@ -1,0 +1,5 @@
+-- What contracts see of a sender of bodies.
+pub mod Senders
+pub mod Views
+pub mod Steps
+pub mod Holds

@@ -1,0 +1,8 @@
+//! The tests, and what they share.
+
+mod attempts;
+mod equal;
+mod fixture;
+mod many;
+mod refusals;
+mod threads;
