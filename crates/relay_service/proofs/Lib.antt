@@ -1,0 +1,4 @@
+mod Answered
+mod Answering
+mod Counted
+mod Unchanged

@@ -1,0 +1,17 @@
+use Rattle.std.proofs.Common.{string_bytes}
+use Rattle.view_json.proofs.Chains.{appended}
+use Rattle.relay_service.specs.Stats.{body_metrics}
+use Rattle.relay_service.proofs.metrics.push_body_metrics.Goals as goal
+
+pub returns : goal.returns
+unfolding body_metrics
+returns g c =
+    let s0 = string_bytes c.args.out.now in
+    let s1 = string_bytes c.push_metric.new.out in
+    let s2 = string_bytes c.push_metric-2.new.out in
+    let s3 = string_bytes c.push_metric-3.new.out in
+    appended s0 s3 (string_bytes c.push_metric-4.new.out) _ _
+    (appended s0 s2 s3 _ _
+    (appended s0 s1 s2 _ _ c.in_ok-push_metric.ensures c.in_ok-push_metric-2.ensures)
+    c.in_ok-push_metric-3.ensures)
+    c.in_ok-push_metric-4.ensures

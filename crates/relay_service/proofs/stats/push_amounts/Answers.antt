@@ -1,0 +1,22 @@
+use Rattle.view_json.proofs.Chains.{appended}
+use Rattle.relay_service.specs.Stats.{amount_members}
+use Rattle.relay_service.proofs.stats.push_amounts.Goals as goal
+
+pub returns-clause-tokens : goal.returns-clause-tokens
+unfolding amount_members
+returns-clause-tokens g c =
+    let s0 = c.args.out.now.tokens in
+    let s1 = c.begin_member.new.out.tokens in
+    let s2 = c.push_number.new.out.tokens in
+    let s3 = c.push_number-2.new.out.tokens in
+    let s4 = c.push_number-3.new.out.tokens in
+    let s5 = c.push_number-4.new.out.tokens in
+    appended s0 s5 c.end.new.out.tokens _ _
+    (appended s0 s4 s5 _ _
+    (appended s0 s3 s4 _ _
+    (appended s0 s2 s3 _ _
+    (appended s0 s1 s2 _ _ c.in_ok-begin_member.ensures.tokens c.in_ok-push_number.ensures.tokens)
+    c.in_ok-push_number-2.ensures.tokens)
+    c.in_ok-push_number-3.ensures.tokens)
+    c.in_ok-push_number-4.ensures.tokens)
+    c.in_ok-end.ensures.tokens

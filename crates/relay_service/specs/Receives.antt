@@ -1,0 +1,70 @@
+-- What becomes of a request to receive spans: it is answered 200 where its content was kept, byte
+-- for byte, and only there. (OTLP Specification, OTLP/HTTP Request and OTLP/HTTP Response)
+use Rattle.std.specs.Prelude.{◌≡◌, ℕ, true, false, Bool, List, Option, Some, None}
+use Rattle.otlp_serve.specs.Posts.{HttpPost}
+use Rattle.http_connection.specs.declared.reply.denial.Denial.{Denial}
+use Rattle.http_connection.specs.declared.reply.denial.Denial.TheVariants as denials
+use Rattle.model_body.specs.Names.{IsReadable}
+use Rattle.post_body.specs.Posts.{HasContent, IsDenied, IsTurnedAway}
+use Rattle.post_body.specs.Reads.{IsUnread, is_above}
+use Rattle.post_body.specs.declared.content.Undecoded.TheVariants as undecoded
+use Rattle.post_body.specs.declared.reading.Unread.TheVariants as reasons
+use Rattle.relay_service.specs.declared.receive.Outcome.{Outcome}
+use Rattle.relay_service.specs.declared.receive.Outcome.TheVariants as outcomes
+
+-- From the first state, what keeps bodies has kept this one, or failed to, and is then so.
+abbrev pub Keeping : Type 0 → Type 1
+Keeping K = K → List ℕ → K → Type 0
+
+-- What keeps bodies has no room for this one, so.
+abbrev pub Lacking : Type 0 → Type 1
+Lacking K = K → List ℕ → Type 0
+
+module _ {K : Type 0} (keeps : Keeping K) (lacks_room : Lacking K) (fails : Keeping K)
+    (old : K) where
+  -- What becomes of a body that is to be kept: it is kept, or it is refused, and then what keeps
+  -- bodies is as it was, unless it failed.
+  pub data Keeps (body : List ℕ) (outcome : Outcome) (new : K) : Type 0 where
+    kept : keeps old body new → outcome ≡ outcomes.Kept → Keeps body outcome new
+    full : lacks_room old body → outcome ≡ outcomes.Denied denials.NoRoom → new ≡ old
+        → Keeps body outcome new
+    no_memory : outcome ≡ outcomes.Denied denials.OutOfMemory → new ≡ old → Keeps body outcome new
+    failed : fails old body new → outcome ≡ outcomes.Failed → Keeps body outcome new
+
+  -- What becomes of a content, where this many bytes may still be pending: reading it would take
+  -- more, it isn't read, or it is a body that is to be kept.
+  pub data ReceivesContent (content : List ℕ) (room : ℕ) (outcome : Outcome) (new : K)
+      : Type 0 where
+    no_room : is_above content room ≡ true → outcome ≡ outcomes.Denied denials.NoRoom → new ≡ old
+        → ReceivesContent content room outcome new
+    unread : is_above content room ≡ false → IsUnread content reasons.Fault
+        → outcome ≡ outcomes.Denied denials.BadBody → new ≡ old
+        → ReceivesContent content room outcome new
+    no_memory : is_above content room ≡ false → IsUnread content reasons.OutOfMemory
+        → outcome ≡ outcomes.Denied denials.OutOfMemory → new ≡ old
+        → ReceivesContent content room outcome new
+    read : is_above content room ≡ false → IsReadable content → Keeps content outcome new
+        → ReceivesContent content room outcome new
+
+  -- What becomes of a post whose content has at most so many bytes: it is refused, memory to have
+  -- its content was lacking, or its content is received.
+  pub data Receives (most : ℕ) (post : HttpPost) (room : ℕ) (outcome : Outcome) (new : K)
+      : Type 0 where
+    denied : (reason : Denial) → IsDenied most post reason → outcome ≡ outcomes.Denied reason
+        → new ≡ old → Receives most post room outcome new
+    no_memory : IsTurnedAway most post undecoded.OutOfMemory
+        → outcome ≡ outcomes.Denied denials.OutOfMemory → new ≡ old
+        → Receives most post room outcome new
+    received : (content : List ℕ) → HasContent most post content
+        → ReceivesContent content room outcome new → Receives most post room outcome new
+
+-- why a post is refused, where it is
+abbrev pub denial_of : Outcome → Option Denial
+denial_of outcomes.Kept = None
+denial_of (outcomes.Denied denial) = Some denial
+denial_of outcomes.Failed = Some denials.KeepFailed
+
+-- what keeps bodies has failed
+abbrev pub is_failure : Outcome → Bool
+is_failure outcomes.Failed = true
+is_failure _ = false

@@ -1,0 +1,96 @@
+-- What the service does for a connection.
+use Rattle.std.specs.Prelude.{◌≡◌, ℕ, ◌||◌, Bool, true, false, List, Option, Some, None}
+use Rattle.http.specs.Request.{head_of}
+use Rattle.http.specs.declared.request.Parts.{Parts as Head}
+use Rattle.http.specs.declared.request.Request.{Request as HttpRequest}
+use Rattle.http_connection.specs.Turns.{Turn, Admitted, Rejected, Answered, Refused}
+use Rattle.http_server.specs.declared.response.Response.{Response}
+use Rattle.http_uri.specs.Uri.{uri_path}
+use Rattle.http_connection.specs.Denials.{IsDenial, IsOptions}
+use Rattle.http_connection.specs.Hosts.{allows_head}
+use Rattle.http_connection.specs.Judged.{denial_by, head_denial}
+use Rattle.http_connection.specs.Requests.{asks_for_methods, denial_format, is_export_of_traces}
+use Rattle.http_connection.specs.Requests.{is_export_path}
+use Rattle.http_connection.specs.Tallies.{CountsAnswer, Tally}
+use Rattle.http_connection.specs.declared.reply.denial.Denial.{Denial}
+use Rattle.http_connection.specs.declared.reply.denial.Denial.TheVariants as denials
+use Rattle.post_body.specs.Posts.{IsAnswer, post_of}
+use Rattle.relay_service.specs.Receives.{Keeping, Lacking, Receives, denial_of, is_failure}
+use Rattle.relay_service.specs.Shows.{AnswersPage, Naming, Reporting}
+use Rattle.relay_service.specs.declared.receive.Outcome.{Outcome}
+use Rattle.relay_service.specs.declared.service.NoPieces.{NoPieces}
+use Rattle.relay_service.specs.declared.service.RelayService.{RelayService}
+
+module _ {K : Type 0} where
+  -- what keeps the bodies of a service
+  abbrev pub keeper_of : RelayService K → K
+  keeper_of service = service.keeper
+
+  -- the hosts under which it may be asked
+  abbrev pub hosts_of : RelayService K → List (List ℕ)
+  hosts_of service = service.hosts
+
+  -- how many bytes the content of a request may have
+  abbrev pub max_body_of : RelayService K → ℕ
+  max_body_of service = service.max_body
+
+  -- what it has counted
+  abbrev pub tally_of : RelayService K → Tally
+  tally_of service = service.tallies
+
+  -- whether its keeper failed to keep a body
+  abbrev pub failed_of : RelayService K → Bool
+  failed_of service = service.has_failed
+
+-- A service has given one more answer, with this status, which it counted. Under the same hosts it
+-- takes contents of the same size.
+pub record HasAnswered {K : Type 0} (old new : RelayService K) (status : ℕ) : Type 0 where
+  pub counted : CountsAnswer (tally_of old) (tally_of new) status
+  pub hosts : hosts_of new ≡ hosts_of old
+  pub max_body : max_body_of new ≡ max_body_of old
+
+-- what keeps the bodies is as it was, and has failed to if it had before
+abbrev pub IsAsBefore : {K : Type 0} → RelayService K → RelayService K → Type 0
+IsAsBefore old new = (keeper_of new ≡ keeper_of old) × (failed_of new ≡ failed_of old)
+
+module _ {K : Type 0} (keeps : Keeping K) (lacks_room : Lacking K) (fails : Keeping K)
+    (reports : Reporting K) (names : Naming K) where
+  -- A whole request is answered, where this many bytes may still be pending: one that asks which
+  -- methods there are where spans are received, one to receive spans, one to receive what isn't
+  -- taken, or one for a page. Only one to receive spans changes what is kept. Once the keeper has
+  -- failed to keep a body, that is remembered.
+  pub data Answers (old : RelayService K) (request : HttpRequest (List ℕ)) (room : ℕ)
+      (response : Response) (new : RelayService K) : Type 0 where
+    options : is_export_of_traces request ≡ true → asks_for_methods request ≡ true
+        → IsOptions response → IsAsBefore old new → Answers old request room response new
+    received : is_export_of_traces request ≡ true → asks_for_methods request ≡ false
+        → (outcome : Outcome)
+        → Receives keeps lacks_room fails (keeper_of old) (max_body_of old) (post_of request) room
+        outcome (keeper_of new)
+        → IsAnswer (denial_of outcome) (denial_format (Some (head_of request))) response
+        → failed_of new ≡ (failed_of old || is_failure outcome)
+        → Answers old request room response new
+    traces_only : is_export_of_traces request ≡ false
+        → is_export_path (uri_path (head_of request).uri) ≡ true
+        → IsDenial denials.TracesOnly (denial_format (Some (head_of request))) response
+        → IsAsBefore old new → Answers old request room response new
+    shown : is_export_path (uri_path (head_of request).uri) ≡ false
+        → AnswersPage reports names (keeper_of old) (failed_of old) (tally_of old).connections
+        (head_of request) response
+        → IsAsBefore old new → Answers old request room response new
+
+  -- What the service does in a turn: a request that it lets in leaves it as it was, and each answer
+  -- is counted.
+  abbrev pub Serves : RelayService K → Turn NoPieces → RelayService K → Type 0
+  Serves old (Admitted head) new =
+      (allows_head (hosts_of old) (head_of head) ≡ true) × (new ≡ old)
+  Serves old (Rejected head response) new = (body : Option ℕ) × (room : ℕ) × (denial : Denial)
+      × (head_denial (hosts_of old) (head_of head) body room ≡ Some denial)
+      × IsDenial denial (denial_format (Some (head_of head))) response
+      × HasAnswered old new response.status × IsAsBefore old new
+  Serves old (Answered request response rest) new = (room : ℕ)
+      × Answers old request room response new × (rest ≡ None)
+      × HasAnswered old new response.status
+  Serves old (Refused refusal response) new = (head : Option Head)
+      × IsDenial (denial_by refusal) (denial_format head) response
+      × HasAnswered old new response.status × IsAsBefore old new

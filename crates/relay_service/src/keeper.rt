@@ -1,0 +1,70 @@
+//! What keeps received bodies.
+
+ghost use Rattle.std.specs.Prelude.{◌≡◌, ◌≤◌, ℕ, IfOk, IsErrOf, List, OnOk, length, map, ⊤};
+ghost use Rattle.model_body.specs.Names.{IsReadable, spans_in};
+ghost use Rattle.relay_service.specs.Lost.{lost_view};
+
+use crate::lost::LostSpan;
+use crate::stats::Report;
+use std::alloc::{AllocError, Global};
+
+/// Why a body isn't kept.
+#[derive(Clone, Copy, Debug, PartialEq, Eq)]
+pub enum KeepFault {
+    /// There is no room for it, in memory or on a disk: there will be where others were handed on.
+    Full,
+    /// Memory was refused.
+    OutOfMemory,
+    /// What keeps bodies has failed, as a disk may.
+    Failed,
+}
+
+/// What keeps the bodies of posts, until they are handed on. Where threads share what keeps them,
+/// each has a keeper of its own.
+pub trait BodyKeeper {
+    ghost use Rattle.model_body.specs.Names.{LostSpan as LostName};
+    ghost use Rattle.relay_service.specs.declared.stats.Report.{Report};
+
+    // From the first state, this body was kept, byte for byte, and the second state is left.
+    ghost keeps: { Self → List ℕ → Self → Type 0 };
+
+    // In this state, it has no room for this body. An `impl` says so, if it can say that.
+    ghost lacks_room: { Self → List ℕ → Type 0 } = { λ _ _. ⊤ };
+
+    // From the first state, it failed to keep this body, and the second state is left.
+    ghost fails: { Self → List ℕ → Self → Type 0 };
+
+    // In this state, this may be reported of it. An `impl` says so, if it can say that.
+    ghost reports: { Self → Report → Type 0 } = { λ _ _. ⊤ };
+
+    // In this state, these spans may be named as lost, the last one first, at most this many. An
+    // `impl` says so, if it can say that.
+    ghost names: { Self → ℕ → List LostName → Type 0 } = { λ _ _ _. ⊤ };
+
+    /// Keeps a body, which has this many spans. `body` has no spare capacity.
+    ///
+    /// # Errors
+    ///
+    /// `KeepFault` where the body isn't kept. But for `KeepFault::Failed`, it is then as it was.
+    fn keep(&mut self, body: Vec<u8>, spans: usize) -> Result<(), KeepFault>
+        requires readable { IsReadable body.items }
+        requires spans { spans ≡ length (spans_in body.items) }
+        ensures kept { OnOk result (keeps self.old body.items self.new) }
+        ensures full { IsErrOf result KeepFault.Full → lacks_room self.old body.items }
+        ensures full_same { IsErrOf result KeepFault.Full → self.new ≡ self.old }
+        ensures memory_same { IsErrOf result KeepFault.OutOfMemory → self.new ≡ self.old }
+        ensures failed { IsErrOf result KeepFault.Failed → fails self.old body.items self.new };
+
+    /// What became of what it kept.
+    fn report(&self) -> Report
+        ensures { reports self.now result };
+
+    /// The spans that were lost last, the last one first: this many at most.
+    ///
+    /// # Errors
+    ///
+    /// `AllocError` where memory was refused.
+    fn lost(&self, alloc: Global, most: usize) -> Result<Vec<LostSpan>, AllocError>
+        ensures few { IfOk result (λ spans. length spans.items ≤ most) }
+        ensures names { IfOk result (λ spans. names self.now most (map lost_view spans.items)) };
+}

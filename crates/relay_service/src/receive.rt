@@ -1,0 +1,195 @@
+//! Requests to receive spans.
+
+ghost use Rattle.std.specs.Prelude.{◌≡◌, ◌||◌, IfErr, IfOk, OnErr, OnOk, Some, length};
+ghost use Rattle.http_server.specs.Response.{IsBlank};
+ghost use Rattle.http_connection.specs.Denials.{IsSuccess};
+ghost use Rattle.model_body.specs.Names.{IsReadable, spans_in};
+ghost use Rattle.post_body.specs.Posts.{IsAnswer, post_of};
+ghost use Rattle.post_body.specs.Reads.{IsUnread};
+ghost use Rattle.relay_service.specs.Receives.{Keeps, Receives, ReceivesContent, denial_of};
+ghost use Rattle.relay_service.specs.Receives.{is_failure};
+ghost use Rattle.http.specs.Request.{head_of};
+ghost use Rattle.http_connection.specs.Requests.{denial_format};
+
+use crate::keeper::{BodyKeeper, KeepFault};
+use bytes::Bytes;
+use http::Request;
+use http_connection::reply::{
+    Denial, Format, denial_format, denial_response, fill_denial, fill_taken,
+};
+use http_server::Response;
+use post_body::{Undecoded, Unread, content_in, is_above, read_content};
+use std::alloc::{AllocError, Global};
+
+/// What became of a post.
+#[derive(Clone, Copy, Debug, PartialEq, Eq)]
+pub(crate) enum Outcome {
+    /// Its content was kept.
+    Kept,
+    /// It is refused for this reason, and what keeps bodies is as it was.
+    Denied(Denial),
+    /// What keeps bodies has failed.
+    Failed,
+}
+
+/// How many spans a content has, or why it isn't read.
+fn count_spans(alloc: Global, content: &[u8]) -> Result<usize, Unread>
+    ensures readable { OnOk result (IsReadable content.now) }
+    ensures count { IfOk result (λ count. count ≡ length (spans_in content.now)) }
+    ensures unread { IfErr result (IsUnread content.now) }
+{
+    let request = match read_content(alloc, content) {
+        Ok(request) => request,
+        Err(why) => return Err(why),
+    };
+    match request.triples() {
+        Ok(spans) => Ok(spans.as_slice().len()),
+        Err(_) => Err(Unread::OutOfMemory),
+    }
+}
+
+/// A copy of a content.
+fn copy_of(alloc: Global, content: &[u8]) -> Result<Vec<u8>, AllocError>
+    ensures { IfOk result (λ body. body.items ≡ content.now) }
+{
+    let body = content.to_vec(alloc)?;
+    Ok(body)
+}
+
+/// Gives a body that has so many spans to what keeps it.
+fn keep_body<K: BodyKeeper>(keeper: &mut K, body: Vec<u8>, spans: usize) -> Outcome
+    requires readable { IsReadable body.items }
+    requires spans { spans ≡ length (spans_in body.items) }
+    ensures { Keeps K.keeps K.lacks_room K.fails keeper.old body.items result keeper.new }
+{
+    match keeper.keep(body, spans) {
+        Ok(()) => Outcome::Kept,
+        Err(KeepFault::Full) => Outcome::Denied(Denial::NoRoom),
+        Err(KeepFault::OutOfMemory) => Outcome::Denied(Denial::OutOfMemory),
+        Err(KeepFault::Failed) => Outcome::Failed,
+    }
+}
+
+/// Keeps a copy of a content that has so many spans.
+fn keep_copy<K: BodyKeeper>(alloc: Global, keeper: &mut K, content: &[u8], spans: usize) -> Outcome
+    requires readable { IsReadable content.now }
+    requires spans { spans ≡ length (spans_in content.now) }
+    ensures { Keeps K.keeps K.lacks_room K.fails keeper.old content.now result keeper.new }
+{
+    match copy_of(alloc, content) {
+        Ok(body) => keep_body(keeper, body, spans),
+        Err(_) => Outcome::Denied(Denial::OutOfMemory),
+    }
+}
+
+/// Keeps the content of a post, where so many bytes may still be pending.
+fn keep_content<K: BodyKeeper>(
+    alloc: Global,
+    keeper: &mut K,
+    content: &[u8],
+    room: usize,
+) -> Outcome
+    ensures { ReceivesContent K.keeps K.lacks_room K.fails keeper.old content.now room result
+        keeper.new }
+{
+    if is_above(content, room) {
+        return Outcome::Denied(Denial::NoRoom);
+    }
+    match count_spans(alloc, content) {
+        Ok(spans) => keep_copy(alloc, keeper, content, spans),
+        Err(Unread::Fault) => Outcome::Denied(Denial::BadBody),
+        Err(Unread::OutOfMemory) => Outcome::Denied(Denial::OutOfMemory),
+    }
+}
+
+/// Keeps what a post of spans carries, whose content may have at most `most` bytes, where so many
+/// bytes may still be pending.
+fn keep_post<K: BodyKeeper>(
+    alloc: Global,
+    keeper: &mut K,
+    request: &Request<Bytes>,
+    most: usize,
+    room: usize,
+) -> Outcome
+    ensures { Receives K.keeps K.lacks_room K.fails keeper.old most (post_of request.now) room
+        result keeper.new }
+{
+    match content_in(alloc, request, most) {
+        Ok(None) => {
+            let content = request.body().as_slice();
+            keep_content(alloc, keeper, content, room)
+        }
+        Ok(Some(content)) => {
+            let content = content.as_slice();
+            keep_content(alloc, keeper, content, room)
+        }
+        Err(Undecoded::Denied(denial)) => Outcome::Denied(denial),
+        Err(Undecoded::OutOfMemory) => Outcome::Denied(Denial::OutOfMemory),
+    }
+}
+
+/// Makes a response the one that says that all was taken, in a format.
+fn taken(alloc: Global, format: Format) -> Result<Response, AllocError>
+    ensures { IfOk result (IsSuccess format) }
+{
+    let mut response = Response::new(alloc);
+    fill_taken(&mut response, format)?;
+    Ok(response)
+}
+
+/// Makes a blank response the answer to a request to receive spans (OTLP Specification, "OTLP/HTTP
+/// Request"), whose content may have at most `most` bytes, and answers what became of it. Only where
+/// its content was read, and the keeper has kept just that, it is 200.
+///
+/// # Errors
+///
+/// `AllocError` where memory for the response was refused. The keeper is as it was.
+pub(crate) fn receive<K: BodyKeeper>(
+    alloc: Global,
+    keeper: &mut K,
+    request: &Request<Bytes>,
+    most: usize,
+    room: usize,
+    response: &mut Response,
+) -> Result<Outcome, AllocError>
+    requires { IsBlank response.old }
+    ensures received { IfOk result (λ outcome. Receives K.keeps K.lacks_room K.fails keeper.old most
+        (post_of request.now) room outcome keeper.new) }
+    ensures answer { IfOk result (λ outcome. IsAnswer (denial_of outcome)
+        (denial_format (Some (head_of request.now))) response.new) }
+    ensures refused { OnErr result (keeper.new ≡ keeper.old) }
+{
+    let format = denial_format(Some(request));
+    // After the keeper has kept a body, or has failed, nothing may fail: these are made before.
+    let taken = taken(alloc, format)?;
+    let failed = denial_response(alloc, Denial::KeepFailed, format)?;
+    let outcome = keep_post(alloc, keeper, request, most, room);
+    match outcome {
+        Outcome::Kept => {
+            *response = taken;
+            Ok(outcome)
+        }
+        Outcome::Denied(denial) => {
+            fill_denial(response, denial, format)?;
+            Ok(outcome)
+        }
+        Outcome::Failed => {
+            *response = failed;
+            Ok(outcome)
+        }
+    }
+}
+
+/// Whether what keeps bodies has failed.
+pub(crate) fn is_failure(outcome: Outcome) -> bool
+    ensures { result ≡ is_failure outcome }
+{
+    matches!(outcome, Outcome::Failed)
+}
+
+/// Whether what keeps bodies has failed in one way or in another one.
+pub(crate) fn either(first: bool, second: bool) -> bool
+    ensures { result ≡ first || second }
+{
+    first || second
+}

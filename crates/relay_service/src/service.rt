@@ -1,0 +1,239 @@
+//! The service that a connection calls.
+
+ghost use Rattle.std.specs.Prelude.{◌≡◌, ◌+◌, [], false, min, OnErr, OnOk, option_copied, replicate};
+ghost use Rattle.http_server.specs.Response.{IsBlank};
+ghost use Rattle.http_connection.specs.Denials.{IsDenial};
+ghost use Rattle.http_connection.specs.Requests.{denial_format, head_in};
+ghost use Rattle.http_connection.specs.Tallies.{MOST};
+ghost use Rattle.relay_service.specs.Serves.{Answers, HasAnswered, failed_of, hosts_of, keeper_of};
+ghost use Rattle.relay_service.specs.Serves.{max_body_of, tally_of};
+
+use crate::keeper::BodyKeeper;
+use crate::receive::{either, is_failure, receive};
+use crate::show::Viewer;
+use bytes::Bytes;
+use http::Request;
+use http_connection::reply::{
+    Denial, Hosts, Tallies, denial_by, denial_format, fill_denial, fill_options, head_denial,
+    is_export_path, path_of,
+};
+use http_connection::{Pieces, Refusal, Service};
+use http_server::Response;
+use std::alloc::{AllocError, Global};
+
+/// The rest of an answer that is whole: nothing.
+#[derive(Clone, Copy, Debug, PartialEq, Eq)]
+pub struct NoPieces;
+
+impl Pieces for NoPieces {
+    ghost writes = { λ _ bytes. bytes ≡ [] };
+
+    fn next(&mut self, out: &mut Vec<u8>) -> Result<bool, AllocError> {
+        let _ = out;
+        Ok(false)
+    }
+}
+
+/// Receives spans by `POST /v1/traces`, keeps the bodies that carry them, and shows by `GET` what
+/// became of these.
+///
+/// It is asked only under its own hosts. A request is answered 200 there only where its body was
+/// read, and its keeper has kept the body's bytes before. Any other answer leaves the keeper as it
+/// was, unless the keeper failed: then `/healthz` is 503 from then on. Each answer is counted by its
+/// status. A call fails only where memory for the answer is refused: nothing was kept then, and the
+/// connection ends.
+#[derive(Drop)]
+pub struct RelayService<K> {
+    alloc: Global,
+    keeper: K,
+    hosts: Hosts,
+    // How many bytes the content of a request may have.
+    max_body: usize,
+    tallies: Tallies,
+    // Whether the keeper failed to keep a body.
+    has_failed: bool,
+}
+
+impl<K> RelayService<K> {
+    /// A service over this keeper, which is asked under these hosts, and takes bodies that mean at
+    /// most this many bytes. A keeper that has no room for so many refuses each such body as one for
+    /// which there is no room now, so it should have more. It takes no memory, and has counted
+    /// nothing.
+    pub fn new(alloc: Global, keeper: K, hosts: Hosts, max_body: usize) -> RelayService<K>
+        ensures keeper { keeper_of result ≡ keeper }
+        ensures hosts { hosts_of result ≡ hosts }
+        ensures max_body { max_body_of result ≡ max_body }
+        ensures tallies { tally_of result
+            ≡ record { connections = 0; answers = replicate 900 0 } }
+        ensures failed { failed_of result ≡ false }
+    {
+        RelayService {
+            alloc,
+            keeper,
+            hosts,
+            max_body,
+            tallies: Tallies::new(),
+            has_failed: false,
+        }
+    }
+
+    /// What keeps its bodies.
+    pub fn keeper(&self) -> &K
+        ensures { result.now ≡ keeper_of self.now }
+    {
+        &self.keeper
+    }
+
+    /// What it has counted.
+    pub fn tallies(&self) -> &Tallies
+        ensures { result.now ≡ tally_of self.now }
+    {
+        &self.tallies
+    }
+
+    /// Whether its keeper failed to keep a body.
+    pub fn has_failed(&self) -> bool
+        ensures { result ≡ failed_of self.now }
+    {
+        self.has_failed
+    }
+
+    /// Counts a connection.
+    pub fn count_connection(&mut self)
+        ensures counted { (tally_of self.new).connections
+            ≡ min ((tally_of self.old).connections + 1) MOST }
+        ensures answers { (tally_of self.new).answers ≡ (tally_of self.old).answers }
+        ensures keeper { keeper_of self.new ≡ keeper_of self.old }
+        ensures hosts { hosts_of self.new ≡ hosts_of self.old }
+        ensures max_body { max_body_of self.new ≡ max_body_of self.old }
+        ensures failed { failed_of self.new ≡ failed_of self.old }
+    {
+        self.tallies.count_connection();
+    }
+
+    /// Makes a blank response the answer to a request that is refused, and counts it.
+    fn deny(
+        &mut self,
+        response: &mut Response,
+        denial: Denial,
+        head: Option<&Request<Bytes>>,
+    ) -> Result<(), AllocError>
+        requires { IsBlank response.old }
+        ensures answer { OnOk result (IsDenial denial
+            (denial_format (head_in (option_copied head.entry))) response.new) }
+        ensures counted { OnOk result (HasAnswered self.old self.new response.new.status) }
+        ensures keeper { keeper_of self.new ≡ keeper_of self.old }
+        ensures failed { failed_of self.new ≡ failed_of self.old }
+        ensures refused { OnErr result (self.new ≡ self.old) }
+    {
+        fill_denial(response, denial, denial_format(head))?;
+        self.tallies.count_answer(response.status);
+        Ok(())
+    }
+}
+
+impl<K: BodyKeeper> RelayService<K> {
+    /// Makes a blank response the answer to a whole request, and counts it, where this many bytes
+    /// may still be pending.
+    ///
+    /// # Errors
+    ///
+    /// `AllocError` where memory for the answer was refused. The service is then as it was.
+    pub fn answer(
+        &mut self,
+        request: &Request<Bytes>,
+        room: usize,
+        response: &mut Response,
+    ) -> Result<(), AllocError>
+        requires { IsBlank response.old }
+        ensures answers { OnOk result (Answers K.keeps K.lacks_room K.fails K.reports K.names
+            self.old request.now room response.new self.new) }
+        ensures counted { OnOk result (HasAnswered self.old self.new response.new.status) }
+        ensures refused { OnErr result (self.new ≡ self.old) }
+    {
+        self.fill(request, room, response)?;
+        self.tallies.count_answer(response.status);
+        Ok(())
+    }
+
+    /// The same, but that it isn't counted.
+    fn fill(
+        &mut self,
+        request: &Request<Bytes>,
+        room: usize,
+        response: &mut Response,
+    ) -> Result<(), AllocError>
+        requires { IsBlank response.old }
+        ensures answers { OnOk result (Answers K.keeps K.lacks_room K.fails K.reports K.names
+            self.old request.now room response.new self.new) }
+        ensures hosts { hosts_of self.new ≡ hosts_of self.old }
+        ensures max_body { max_body_of self.new ≡ max_body_of self.old }
+        ensures tallies { tally_of self.new ≡ tally_of self.old }
+        ensures refused { OnErr result (self.new ≡ self.old) }
+    {
+        let path = path_of(request);
+        if path == "/v1/traces" {
+            if request.method().as_str() == "OPTIONS" {
+                fill_options(response)?;
+                return Ok(());
+            }
+            let keeper = &mut self.keeper;
+            let outcome = receive(self.alloc, keeper, request, self.max_body, room, response)?;
+            self.has_failed = either(self.has_failed, is_failure(outcome));
+            return Ok(());
+        }
+        if is_export_path(path) {
+            fill_denial(response, Denial::TracesOnly, denial_format(Some(request)))?;
+            return Ok(());
+        }
+        let viewer = Viewer {
+            alloc: self.alloc,
+            keeper: &self.keeper,
+            has_failed: self.has_failed,
+            connections: self.tallies.connections(),
+        };
+        viewer.show(request, response)?;
+        Ok(())
+    }
+}
+
+impl<K: BodyKeeper> Service for RelayService<K> {
+    ghost use Rattle.relay_service.specs.Serves.{Serves};
+
+    type Pieces = NoPieces;
+
+    ghost answers = { Serves K.keeps K.lacks_room K.fails K.reports K.names };
+
+    fn admit(
+        &mut self,
+        head: &Request<Bytes>,
+        body: Option<u64>,
+        room: usize,
+        response: &mut Response,
+    ) -> Result<bool, AllocError> {
+        let Some(denial) = head_denial(&self.hosts, head, body, room) else {
+            return Ok(true);
+        };
+        self.deny(response, denial, Some(head))?;
+        Ok(false)
+    }
+
+    fn call(
+        &mut self,
+        request: &Request<Bytes>,
+        room: usize,
+        response: &mut Response,
+    ) -> Result<Option<NoPieces>, AllocError> {
+        self.answer(request, room, response)?;
+        Ok(None)
+    }
+
+    fn refuse(
+        &mut self,
+        refusal: Refusal,
+        head: Option<&Request<Bytes>>,
+        response: &mut Response,
+    ) -> Result<(), AllocError> {
+        self.deny(response, denial_by(refusal), head)
+    }
+}
