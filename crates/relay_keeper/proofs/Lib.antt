@@ -1,0 +1,4 @@
+mod Fronts
+mod Waits
+mod Sound
+mod Held

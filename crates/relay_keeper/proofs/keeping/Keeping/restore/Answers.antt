@@ -1,0 +1,12 @@
+use Rattle.std.proofs.Common.{[], ap, rules}
+use Rattle.model_body.specs.Desks.{BodyDesk}
+use Rattle.relay_keeper.proofs.Sound.{sound-none}
+use Rattle.relay_keeper.proofs.keeping.Keeping.restore.Goals as goal
+
+pub invariant_of-self : goal.invariant_of-self
+invariant_of-self g c =
+    sound-none g.D.Device.is_known g.D.Device.files g.D.Device.moment g.D.Device.left_at
+    _ (record { events = []; is = c.new.ensures.history })
+    (ap (λ (d : BodyDesk). d.kept) c.new.ensures.desk)
+    (λ known spooled failed. c.note_into-self-inside.ensures.settled failed known)
+    (search rules)

@@ -1,0 +1,115 @@
+-- What keeps a relay's bodies shows, and what a call makes of it. (profile)
+use Rattle.std.specs.Prelude.{◌≡◌, ℕ, ◌+◌, ◌-◌, ◌^◌, min, Bool, List, [], ◌∷◌}
+use Rattle.std.specs.Prelude.{◌++◌, if◌then◌else◌, Option, IfSome, length}
+use Rattle.model_body.specs.Histories as events
+use Rattle.model_body.specs.Desks.{BodyDesk, Does, HasRoom, after}
+use Rattle.body_sending.specs.Holds.{HasHistory}
+use Rattle.spool_device.specs.Disks.{Disk}
+use Rattle.spool.specs.Spools.{HasNoRoom}
+use Rattle.spool.specs.Settled.{IsSettled, device_of, limit_of}
+use Rattle.spool.specs.declared.state.Spool.{Spool}
+use Rattle.relay_keeper.specs.Fronts.{spool_waiting}
+use Rattle.relay_service.specs.declared.stats.Amounts.{Amounts}
+use Rattle.relay_service.specs.declared.stats.Report.{Report}
+use Rattle.relay_keeper.specs.declared.counts.Counts.{Counts}
+
+-- The desk; whether bodies are kept in a spool; the spool, where it is there; whether it failed, so
+-- that it has to be opened again. All bodies of the spool with a number below the first one ended;
+-- the next body gets the next number; those below the start were received by an earlier run.
+pub record Kept (D : Type 0) : Type 0 where
+  pub desk : BodyDesk
+  pub is_spooled : Bool
+  pub spool : Option (Spool D)
+  pub has_failed : Bool
+  pub first : ℕ
+  pub next : ℕ
+  pub start : ℕ
+  pub counts : Counts
+
+-- ---- counts
+
+-- a count of 64 bits, which stops at its greatest number
+abbrev pub capped : ℕ → ℕ
+capped n = min n (2 ^ 64 - 1)
+
+-- The counts, with so many more spans that were received.
+abbrev pub with_received : ℕ → Counts → Counts
+with_received spans counts =
+    record counts { received_spans = capped (counts.received_spans + spans) }
+
+-- With one more batch that was taken to be sent.
+abbrev pub with_attempt : Counts → Counts
+with_attempt counts = record counts { attempts = capped (counts.attempts + 1) }
+
+-- With so many more spans that are lost or were delivered.
+abbrev pub with_ended : Bool → ℕ → Counts → Counts
+with_ended is_loss spans counts =
+    if is_loss then record counts { lost_spans = capped (counts.lost_spans + spans) }
+    else record counts { delivered_spans = capped (counts.delivered_spans + spans) }
+
+-- With the bodies that were delivered from a desk, or lost at it, which is no longer there.
+abbrev pub with_desk : ℕ → ℕ → Counts → Counts
+with_desk delivered lost counts = record counts {
+  delivered = capped (counts.delivered + delivered);
+  lost = capped (counts.lost + lost);
+}
+
+-- ---- a body that is kept
+
+-- A body that has room is kept at the desk, after the others, with so many spans, and nothing else
+-- is changed.
+pub record Admits {D : Type 0} (body : List ℕ) (spans : ℕ) (old new : Kept D) : Type 0 where
+  pub room : HasRoom old.desk body
+  pub only : new ≡ record old {
+    desk = after (events.admitted body) old.desk;
+    counts = with_received spans old.counts;
+  }
+  pub history : Does (events.admitted body) old.desk new.desk
+
+-- A body waits in the spool, after the others, under a number, and what waits is on the disk.
+pub record Puts {D : Type 0} (files : D → Disk) (moment : D → ℕ)
+    (left_at : D → ℕ → Disk → Type 0) (body : List ℕ) (old new : Option (Spool D)) : Type 0 where
+  pub number : ℕ
+  pub waits : spool_waiting files new ≡ spool_waiting files old ++ (number, body) ∷ []
+  pub settled : IfSome new (IsSettled files moment left_at)
+
+-- A body has no room in a spool.
+abbrev pub IsFull : {D : Type 0} → (D → Disk) → List ℕ → Option (Spool D) → Type 0
+IsFull files body spool =
+    IfSome spool (λ s. HasNoRoom (files (device_of s)) (body ∷ []) (limit_of s))
+
+-- ---- bodies that are read from a spool
+
+-- Some of these bodies, the first ones, are kept at a desk, after those that it had. (profile)
+pub record AdmitsFirst (bodies : List (List ℕ)) (old new : BodyDesk) : Type 0 where
+  pub admitted : List (List ℕ)
+  pub others : List (List ℕ)
+  pub all : bodies ≡ admitted ++ others
+  pub desk : new ≡ record old {
+    kept = old.kept ++ admitted;
+    admitted = old.admitted + length admitted;
+  }
+  pub history : HasHistory old → HasHistory new
+
+-- ---- reports
+
+-- How many bodies are kept: those of the desk, or all that wait in the spool.
+abbrev pub kept_count : {D : Type 0} → Kept D → ℕ
+kept_count kept =
+    if kept.is_spooled then kept.next - kept.first else length kept.desk.kept
+
+-- What became of the bodies: each that was received was delivered, is lost, or is kept.
+pub record AreBodies {D : Type 0} (kept : Kept D) (bodies : Amounts) : Type 0 where
+  pub delivered : bodies.delivered ≡ capped (kept.counts.delivered + kept.desk.delivered)
+  pub lost : bodies.lost ≡ capped (kept.counts.lost + kept.desk.lost)
+  pub kept_are : bodies.kept ≡ kept_count kept
+  pub sum : bodies.received ≡ capped (bodies.delivered + bodies.lost + bodies.kept)
+
+-- What is reported of what keeps bodies.
+pub record IsReport {D : Type 0} (kept : Kept D) (report : Report) : Type 0 where
+  pub bodies : AreBodies kept report.bodies
+  pub received_spans : report.spans.received ≡ kept.counts.received_spans
+  pub delivered_spans : report.spans.delivered ≡ kept.counts.delivered_spans
+  pub lost_spans : report.spans.lost ≡ kept.counts.lost_spans
+  pub attempts : report.attempts ≡ kept.counts.attempts
+  pub failed : report.has_failed ≡ kept.has_failed

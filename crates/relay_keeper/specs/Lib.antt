@@ -1,0 +1,5 @@
+-- What contracts see of what keeps a relay's bodies.
+pub mod Fronts
+pub mod Kept
+pub mod Inside
+pub mod Holds
