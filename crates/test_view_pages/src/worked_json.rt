@@ -7,9 +7,10 @@
 ghost use Rattle.std.specs.Prelude.{◌≡◌, ◌∷◌, [], Some, codes, from_bits, true, false, pos, negsuc};
 ghost use Rattle.std.specs.Float.{binary64};
 ghost use Rattle.std.specs.Float.Ieee.{fin};
-ghost use Rattle.json.specs.Token.{key, number, string};
+ghost use Rattle.json.specs.Token.{begin_object, boolean, end_object, key, number, string};
 ghost use Rattle.view_json.specs.Seen.{Number, Other, float_seen, hex_member, long_member};
 ghost use Rattle.view_json.specs.Seen.{seen};
+ghost use Rattle.view_json.specs.Values.{pair_text};
 
 /// Identifiers are in hexadecimal, in lower case; numbers of 64 bits are texts.
 pub fn members()
@@ -37,4 +38,16 @@ pub fn doubles()
         ≡ Other (string (codes "Infinity")) }
     ensures less { float_seen (from_bits binary64 0xfff0000000000000)
         ≡ Other (string (codes "-Infinity")) }
+{}
+
+/// A pair has the member `value` only where its value has a member, which says what it is.
+pub fn pairs()
+    ensures bare { pair_text (codes "a") []
+        ≡ Other begin_object ∷ Other (key (codes "key")) ∷ Other (string (codes "a"))
+        ∷ Other end_object ∷ [] }
+    ensures truth { pair_text (codes "a")
+        (Other (key (codes "boolValue")) ∷ Other (boolean true) ∷ [])
+        ≡ Other begin_object ∷ Other (key (codes "key")) ∷ Other (string (codes "a"))
+        ∷ Other (key (codes "value")) ∷ Other begin_object ∷ Other (key (codes "boolValue"))
+        ∷ Other (boolean true) ∷ Other end_object ∷ Other end_object ∷ [] }
 {}

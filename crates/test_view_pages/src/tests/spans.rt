@@ -161,6 +161,31 @@ pub(crate) fn span<A: Allocator + Copy>(alloc: A, name: &str) -> Result<Span<A>,
     })
 }
 
+/// A value in so many arrays.
+fn in_arrays<A: Allocator + Copy>(
+    alloc: A,
+    value: AnyValue<A>,
+    count: u32,
+) -> Result<AnyValue<A>, AllocError> {
+    let mut outer = value;
+    for _ in 0..count {
+        let mut values = Vec::new(alloc);
+        values.push(outer)?;
+        outer = AnyValue::Array(values);
+    }
+    Ok(outer)
+}
+
+/// A span with an attribute of 64 levels: in the last one is a pair without a value.
+pub(crate) fn deep<A: Allocator + Copy>(alloc: A) -> Result<Span<A>, AllocError> {
+    let mut pairs = Vec::new(alloc);
+    push(alloc, &mut pairs, "bare", AnyValue::Empty)?;
+    let value = in_arrays(alloc, AnyValue::Pairs(pairs), 63)?;
+    let mut deep = span(alloc, "deep")?;
+    push(alloc, &mut deep.attributes, "deep", value)?;
+    Ok(deep)
+}
+
 /// Spans of one scope, in a request.
 fn request<A: Allocator + Copy>(
     alloc: A,

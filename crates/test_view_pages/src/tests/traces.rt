@@ -1,6 +1,6 @@
 //! Whole traces as JSON.
 use crate::tests::equal::assert_equal;
-use crate::tests::spans::{Kept, full, kept, span};
+use crate::tests::spans::{Kept, deep, full, kept, span};
 use otlp_read::Span;
 use std::alloc::{AllocError, Allocator};
 use std::test::Fail;
@@ -12,7 +12,7 @@ const BEGINNING: &str =
 
 /// Its attributes.
 const ATTRIBUTES: &str =
-    r#""attributes":[{"key":"empty","value":{}},{"key":"text","value":{"stringValue":"a \"b\"\n"}},{"key":"true","value":{"boolValue":true}},{"key":"int","value":{"intValue":"-7"}},{"key":"least","value":{"intValue":"-9223372036854775808"}},{"key":"bytes","value":{"bytesValue":"+//+AQ=="}},{"key":"one and a half","value":{"doubleValue":1.5}},{"key":"not a number","value":{"doubleValue":"NaN"}},{"key":"infinite","value":{"doubleValue":"Infinity"}},{"key":"less","value":{"doubleValue":"-Infinity"}},{"key":"array","value":{"arrayValue":{"values":[{"intValue":"0"},{"stringValue":"x"}]}}},{"key":"pairs","value":{"kvlistValue":{"values":[{"key":"k","value":{"stringValue":"v"}}]}}}],"droppedAttributesCount":1,"#;
+    r#""attributes":[{"key":"empty"},{"key":"text","value":{"stringValue":"a \"b\"\n"}},{"key":"true","value":{"boolValue":true}},{"key":"int","value":{"intValue":"-7"}},{"key":"least","value":{"intValue":"-9223372036854775808"}},{"key":"bytes","value":{"bytesValue":"+//+AQ=="}},{"key":"one and a half","value":{"doubleValue":1.5}},{"key":"not a number","value":{"doubleValue":"NaN"}},{"key":"infinite","value":{"doubleValue":"Infinity"}},{"key":"less","value":{"doubleValue":"-Infinity"}},{"key":"array","value":{"arrayValue":{"values":[{"intValue":"0"},{"stringValue":"x"}]}}},{"key":"pairs","value":{"kvlistValue":{"values":[{"key":"k","value":{"stringValue":"v"}}]}}}],"droppedAttributesCount":1,"#;
 
 /// What comes after them.
 const END: &str =
@@ -25,9 +25,13 @@ const FIRST: &str = r#"{"resourceSpans":["#;
 const BEFORE: &str =
     r#"{"resource":{"attributes":[{"key":"service.name","value":{"stringValue":"my.service"}}],"droppedAttributesCount":7},"scopeSpans":[{"scope":{"name":"my.library","version":"1.0.0","attributes":[{"key":"in","value":{"stringValue":"scope"}}],"droppedAttributesCount":6},"spans":[{"traceId":"5b8efff798038103d269b633813fc60c","spanId":"0101010101010101","traceState":"","parentSpanId":"","flags":0,"name":""#;
 
-/// What comes after its name.
+/// What comes after its name, up to its attributes.
+const NAMED: &str =
+    r#"","kind":0,"startTimeUnixNano":"0","endTimeUnixNano":"18446744073709551615","attributes":["#;
+
+/// What comes after its attributes.
 const AFTER: &str =
-    r#"","kind":0,"startTimeUnixNano":"0","endTimeUnixNano":"18446744073709551615","attributes":[],"droppedAttributesCount":0,"events":[],"droppedEventsCount":0,"links":[],"droppedLinksCount":0,"status":{"message":"","code":0}}],"schemaUrl":"of scope"}],"schemaUrl":"of resource"}"#;
+    r#"],"droppedAttributesCount":0,"events":[],"droppedEventsCount":0,"links":[],"droppedLinksCount":0,"status":{"message":"","code":0}}],"schemaUrl":"of scope"}],"schemaUrl":"of resource"}"#;
 
 /// What comes after the last one.
 const LAST: &str = "]}";
@@ -94,7 +98,35 @@ fn a_long_name_has_its_escapes(rt: HostRuntime) -> Result<(), Fail> {
     let text = text_of(rt.alloc(), kept(rt.alloc(), spans)?)?;
     let written = r#"\"\\\n\u0001\u001f</script>é"#;
     let written = repeated(rt.alloc(), written, 4096)?;
-    let wanted = joined(rt.alloc(), &[FIRST, BEFORE, &written, AFTER, LAST])?;
+    let wanted = joined(rt.alloc(), &[FIRST, BEFORE, &written, NAMED, AFTER, LAST])?;
+    assert_equal(&rt, text.as_slice(), wanted.as_bytes());
+    Ok(())
+}
+
+/// What is written of a list of a pair without a value, in 63 arrays.
+fn deep_value<A: Allocator + Copy>(alloc: A) -> Result<String<A>, AllocError> {
+    let mut text = String::new(alloc);
+    for _ in 0..63 {
+        text.push_str(r#"{"arrayValue":{"values":["#)?;
+    }
+    text.push_str(r#"{"kvlistValue":{"values":[{"key":"bare"}]}}"#)?;
+    for _ in 0..63 {
+        text.push_str("]}}")?;
+    }
+    Ok(text)
+}
+
+/// A list of a pair without a value, in 63 arrays. An empty value of the pair would be at the 65th
+/// level, one above what is read.
+#[test]
+fn a_pair_at_the_last_level_is_written_without_a_value(rt: HostRuntime) -> Result<(), Fail> {
+    let mut spans = Vec::new(rt.alloc());
+    spans.push(deep(rt.alloc())?)?;
+    let text = text_of(rt.alloc(), kept(rt.alloc(), spans)?)?;
+    let value = deep_value(rt.alloc())?;
+    let pair = joined(rt.alloc(), &[r#"{"key":"deep","value":"#, &value, "}"])?;
+    let span = joined(rt.alloc(), &[BEFORE, "deep", NAMED, &pair, AFTER])?;
+    let wanted = joined(rt.alloc(), &[FIRST, &span, LAST])?;
     assert_equal(&rt, text.as_slice(), wanted.as_bytes());
     Ok(())
 }
@@ -118,6 +150,7 @@ fn many_written<A: Allocator + Copy>(alloc: A, count: u64) -> Result<String<A>, 
         }
         all.push_str(BEFORE)?;
         write!(all, "{place}")?;
+        all.push_str(NAMED)?;
         all.push_str(AFTER)?;
     }
     all.push_str(LAST)?;
