@@ -148,7 +148,7 @@ fn unanswered<R: Abort + Wait>(
     admit_all(rt, alloc, &desk, &[(1, 2), (3, 4)]);
     let mut follows = None;
     for hour in 0..most {
-        let now = u64::from(hour) * 3600 * SECOND;
+        let now = u64::from(hour).saturating_mul(3600 * SECOND);
         follows = step(rt, &desk, &mut sender, &mut exporter, &mut sink, now);
         if !matches!(follows, Some(Next::Again(_))) {
             break;
