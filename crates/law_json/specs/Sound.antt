@@ -1,7 +1,7 @@
 -- What a message can have that was read: texts are UTF-8, bytes and numbers have their room, and
 -- values nest no deeper than 64 levels. (Protocol Buffers, Language Guide: Scalar Value Types; the
 -- depth: profile)
-use Rattle.std.specs.Prelude.{◌≡◌, ℕ, zero, suc, ◌<◌, ◌^◌}
+use Rattle.std.specs.Prelude.{ℕ, zero, suc, ◌<◌, ◌^◌}
 use Rattle.std.specs.Int.{w32, w64}
 use Rattle.std.specs.List.{AllByRecursion}
 use mir.Val.{SFits}
