@@ -1,7 +1,9 @@
 -- Runs one after another.
 use Rattle.std.proofs.Common.{◌≡◌, ℕ, suc, zero, ◌+◌, ◌*◌, ◌<◌, ◌≤◌, arith, ◌⊎◌, Bool, true, false}
 use Rattle.std.proofs.Common.{cond, length, List, [], ◌∷◌, ◌++◌, refl, sym, ap, subst, ◌∙◌}
-use Rattle.std.proofs.Common.{append_assoc, append-nil, inl, inr, Option}
+use Rattle.std.proofs.Common.{append_assoc, append-nil, inl, inr, None, Option, Some}
+use Rattle.std.specs.Option.{ForSome}
+use Rattle.std.specs.Prelude.{IsSome}
 use Rattle.std.proofs.lemmas.Grind.{flat_map-append}
 use Rattle.http.specs.declared.request.Parts.{Parts}
 use Rattle.http.specs.declared.request.Request.{Request}
@@ -12,7 +14,9 @@ use Rattle.http_connection.specs.declared.connection.Stage.{Stage}
 use Rattle.http_connection.specs.declared.connection.Stage.TheVariants as At
 use Rattle.http_connection.specs.declared.limits.Phase.TheVariants.{Done}
 use Rattle.http_connection.specs.declared.limits.Refusal.{Refusal}
-use Rattle.http_connection.specs.Connections.{advances_at, phase_at, place_at, reads_at, rests_at}
+use Rattle.http_connection.specs.Connections.{advances_at, phase_at, place_at, rank, reads_at}
+use Rattle.http_connection.specs.Connections.{rests_at}
+use Rattle.http_connection.specs.Stages.{whole_at}
 use Rattle.http_connection.specs.Texts.{continue_text, refusal_text, piece_text}
 use Rattle.http_connection.specs.Runs.{IsOpen, asks_head, answer_text, place_after, Place, Awaits}
 use Rattle.http_connection.specs.Runs.{Takes, Writes, Over, Act, Took, Kept, Wrote, Does, Chain}
@@ -245,18 +249,19 @@ body_is_open {P} stage head body is =
     subst (λ (s : Stage P). IsOpen (place_at s head body)) (sym is) tt
 
 -- The measure of the work left falls where a body ends.
-pub work_falls : (l m n r : ℕ) → n ≡ 2 * l → l ≡ m → r ≡ 1 → n < 2 * m + r
+pub work_falls : (l m n r : ℕ) → n ≡ 3 * l → l ≡ m → r ≡ 1 → n < 3 * m + r
 work_falls l m n r is same one = omega arith
 
 -- Where the client may send more, nothing is left to do before a read.
 pub rests_open : {P : Type 0} (stage : Stage P) (ended : Bool) (waits : ℕ) → ended ≡ false
-    → rests_at stage ended waits
-rests_open At.Head ended waits is = inl is
-rests_open At.Body ended waits is = is
-rests_open (At.Pieces p) ended waits is = tt
-rests_open (At.Discard left) ended waits is = is
-rests_open At.Closing ended waits is = tt
-rests_open At.Aborted ended waits is = tt
+    → whole_at stage ≡ None → rests_at stage ended waits
+rests_open At.Head ended waits is none = inl is
+rests_open At.Body ended waits is none = is
+rests_open (At.Whole request) ended waits is none = absurd (cc)
+rests_open (At.Pieces p) ended waits is none = tt
+rests_open (At.Discard left) ended waits is none = is
+rests_open At.Closing ended waits is none = tt
+rests_open At.Aborted ended waits is none = tt
 
 -- A connection that rests reads, writes or advances, unless it is done.
 pub never_stalls : {P : Type 0} (stage : Stage P) (ended : Bool) (unread waits : ℕ)
@@ -270,6 +275,7 @@ never_stalls At.Head true unread waits x =
     elim x [ inl e ↦ absurd (cc) | inr more ↦ inr (inl more) ]
 never_stalls At.Body false unread waits x = inl refl
 never_stalls At.Body true unread waits x = absurd (cc)
+never_stalls (At.Whole request) ended unread waits x = absurd x
 never_stalls (At.Pieces p) ended unread zero x = inr (inr (inl refl))
 never_stalls (At.Pieces p) ended unread (suc waits) x = inr (inl (omega arith))
 never_stalls (At.Discard left) false unread waits x = inl refl
@@ -284,3 +290,75 @@ pub writing_rests : {P : Type 0} (stage : Stage P) (p : P) (ended : Bool) (waits
     → stage ≡ At.Pieces p → rests_at stage ended waits
 writing_rests {P} stage p ended waits is =
     subst (λ (s : Stage P). rests_at s ended waits) (sym is) tt
+
+module _ {P : Type 0} where
+  -- A connection with a whole request is to answer it.
+  pub whole_takes : (stage : Stage P) (head : Parts) (body : List ℕ) (request : Request (List ℕ))
+      → whole_at stage ≡ Some request
+      → place_at stage head body ≡ Takes (head_of request) (body_of request)
+  whole_takes At.Head head body request is = absurd (cc)
+  whole_takes At.Body head body request is = absurd (cc)
+  whole_takes (At.Whole r) head body request is =
+      let same : r ≡ request = cc in (λ i. Takes (head_of (same i)) (body_of (same i)))
+  whole_takes (At.Pieces p) head body request is = absurd (cc)
+  whole_takes (At.Discard left) head body request is = absurd (cc)
+  whole_takes At.Closing head body request is = absurd (cc)
+  whole_takes At.Aborted head body request is = absurd (cc)
+
+  -- Its answer is one step of work.
+  pub whole_rank : (stage : Stage P) (request : Request (List ℕ)) → whole_at stage ≡ Some request
+      → rank stage ≡ 1
+  whole_rank At.Head request is = absurd (cc)
+  whole_rank At.Body request is = absurd (cc)
+  whole_rank (At.Whole r) request is = refl
+  whole_rank (At.Pieces p) request is = absurd (cc)
+  whole_rank (At.Discard left) request is = absurd (cc)
+  whole_rank At.Closing request is = absurd (cc)
+  whole_rank At.Aborted request is = absurd (cc)
+
+  -- Where a connection rests, no whole request waits.
+  pub rests_none : (stage : Stage P) (ended : Bool) (waits : ℕ) → rests_at stage ended waits
+      → whole_at stage ≡ None
+  rests_none At.Head ended waits x = refl
+  rests_none At.Body ended waits x = refl
+  rests_none (At.Whole request) ended waits x = absurd x
+  rests_none (At.Pieces p) ended waits x = refl
+  rests_none (At.Discard left) ended waits x = refl
+  rests_none At.Closing ended waits x = refl
+  rests_none At.Aborted ended waits x = refl
+
+  -- A connection that stops at a whole request is to be advanced.
+  whole_advances : (stage : Stage P) (waits : ℕ) → IsSome (whole_at stage)
+      → advances_at stage waits ≡ true
+  whole_advances At.Head waits x = absurd (cc)
+  whole_advances At.Body waits x = absurd (cc)
+  whole_advances (At.Whole request) waits x = refl
+  whole_advances (At.Pieces p) waits x = absurd (cc)
+  whole_advances (At.Discard left) waits x = absurd (cc)
+  whole_advances At.Closing waits x = absurd (cc)
+  whole_advances At.Aborted waits x = absurd (cc)
+
+  -- A connection that stops never stalls.
+  pub stops_never_stalls : (pauses : Bool) (stage : Stage P) (ended : Bool) (unread waits : ℕ)
+      → rests_at stage ended waits ⊎ ((pauses ≡ true) × IsSome (whole_at stage))
+      → (reads_at stage ended waits ≡ true)
+      ⊎ ((0 < waits)
+      ⊎ ((advances_at stage waits ≡ true) ⊎ (phase_at stage ended unread waits ≡ Done)))
+  stops_never_stalls pauses stage ended unread waits (inl x) =
+      never_stalls stage ended unread waits x
+  stops_never_stalls pauses stage ended unread waits (inr (p, whole)) =
+      inr (inr (inl (whole_advances stage waits whole)))
+
+  -- A connection that doesn't pause stops where no whole request waits.
+  pub stops_answered : (stage : Stage P) (ended : Bool) (waits : ℕ)
+      → rests_at stage ended waits ⊎ ((false ≡ true) × IsSome (whole_at stage))
+      → whole_at stage ≡ None
+  stops_answered stage ended waits (inl x) = rests_none stage ended waits x
+  stops_answered stage ended waits (inr (p, whole)) = absurd (cc)
+
+  -- A whole request is within the bound.
+  pub whole_within : (most : ℕ) (stage : Stage P) (request : Request (List ℕ))
+      → whole_at stage ≡ Some request
+      → ForSome (whole_at stage) (λ (r : Request (List ℕ)). length (body_of r) ≤ most)
+      → length (body_of request) ≤ most
+  whole_within most stage request is all = all request is

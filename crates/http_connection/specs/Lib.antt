@@ -11,3 +11,4 @@ pub mod Runs
 pub mod Tallies
 pub mod Texts
 pub mod Turns
+pub mod Stages

@@ -1,13 +1,16 @@
 //! A connection, with no IO of its own.
 
 ghost use Rattle.std.specs.Prelude.{◌≡◌, ◌≤◌, ℕ, ◌↔◌, ◌<◌, false, [], List, drop, length, min};
-ghost use Rattle.std.specs.Prelude.{take, vec_len, IfOk, OnErr, IsTrue};
+ghost use Rattle.std.specs.Prelude.{take, vec_len, IfOk, IsSome, None, OnErr, IsTrue};
+ghost use Rattle.std.specs.Option.{ForSome};
+ghost use Rattle.http.specs.Request.{body_of};
+ghost use Rattle.http_connection.specs.Stages.{whole_at};
 ghost use Rattle.std.specs.Io.KnownBytes.{Appends, Keeps};
 
 use crate::input::Input;
 use crate::limits::{MAX_FIELDS, MAX_PENDING};
 use crate::output::Output;
-use crate::{Limits, Phase, Pieces, Service};
+use crate::{Gathers, Limits, Phase, Pieces, Service};
 use bytes::Bytes;
 use http::request::Parts;
 use http::{HeaderMap, Method, Request, Uri, Version};
@@ -24,6 +27,8 @@ pub(crate) enum Stage<P> {
     Head,
     /// It reads the body of a request that was let in.
     Body,
+    /// It has read this request, which is whole, and answers it next.
+    Whole(Request<Bytes>),
     /// It writes the pieces of an answer.
     Pieces(P),
     /// It reads the rest of a refused request, this many bytes at most, and throws them away.
@@ -52,10 +57,11 @@ pub struct Connection<P> {
     pub(crate) server: Server,
     /// The request whose body is read, or a blank one.
     pub(crate) request: Request<Bytes>,
-    /// How many bytes its head takes.
+    /// How many bytes its head takes, and the body of one that is whole.
     pub(crate) head_room: usize,
     pub(crate) body: Vec<u8>,
     ghost bounded: { vec_len body ≤ limits.max_body },
+    ghost whole_bounded: { ForSome (whole_at stage) (λ r. length (body_of r) ≤ limits.max_body) },
 }
 
 /// A request of which nothing is known.
@@ -72,7 +78,7 @@ pub(crate) fn blank_request(alloc: Global, keys: RandomState) -> Request<Bytes> 
 impl<P> Connection<P> {
     ghost use Rattle.http_connection.specs.Connections.{pending_of, held_of, phase_of, place_of};
     ghost use Rattle.http_connection.specs.Connections.{wants_advance_of, wants_read_of};
-    ghost use Rattle.http_connection.specs.Connections.{HoldsNoBlock, Rests, is_aborted};
+    ghost use Rattle.http_connection.specs.Connections.{HoldsNoBlock, Rests, is_aborted, whole_of};
     ghost use Rattle.http_connection.specs.Runs.{Place};
 
     /// A connection on which nothing has come. It takes no memory. The client chooses the names of
@@ -106,7 +112,7 @@ impl<P> Connection<P> {
             Stage::Head if is_pending => Phase::Answering,
             Stage::Head if self.input.bytes.is_empty() => Phase::Idle,
             Stage::Head | Stage::Body => Phase::Receiving,
-            Stage::Pieces(_) => Phase::Answering,
+            Stage::Whole(_) | Stage::Pieces(_) => Phase::Answering,
             Stage::Discard(_) => Phase::Discarding,
             Stage::Closing if is_pending => Phase::Answering,
             Stage::Closing if !self.ended => Phase::Closing,
@@ -132,7 +138,7 @@ impl<P> Connection<P> {
         match self.stage {
             Stage::Head => !self.ended && self.output.len() < MAX_PENDING,
             Stage::Body | Stage::Discard(_) | Stage::Closing => !self.ended,
-            Stage::Pieces(_) | Stage::Aborted => false,
+            Stage::Whole(_) | Stage::Pieces(_) | Stage::Aborted => false,
         }
     }
 
@@ -143,10 +149,29 @@ impl<P> Connection<P> {
         self.output.len() > 0
     }
 
-    /// Whether `advance` would write one more piece.
+    /// Whether `advance` would answer a whole request, or write one more piece.
     pub fn wants_advance(&self) -> bool
         ensures value { result ≡ wants_advance_of self.now }
         ensures lives { IsTrue result → is_aborted self.now ≡ false }
+    {
+        match self.stage {
+            Stage::Whole(_) => true,
+            Stage::Pieces(_) => self.output.len() < MAX_PENDING,
+            _ => false,
+        }
+    }
+
+    /// Whether it stopped at a whole request, which `advance` answers.
+    pub fn is_whole(&self) -> bool
+        ensures { IsTrue result ↔ IsSome (whole_of self.now) }
+    {
+        matches!(self.stage, Stage::Whole(_))
+    }
+
+    /// Whether one more piece of an answer can be written.
+    pub(crate) fn wants_piece(&self) -> bool
+        ensures lives { IsTrue result → is_aborted self.now ≡ false }
+        ensures rests { IsTrue result → Rests self.now }
     {
         matches!(self.stage, Stage::Pieces(_)) && self.output.len() < MAX_PENDING
     }
@@ -162,6 +187,7 @@ impl<P> Connection<P> {
         ensures idle { OnErr result (HoldsNoBlock self.new) }
         ensures pending { pending_of self.new ≡ pending_of self.old }
         ensures place { place_of self.new ≡ place_of self.old }
+        ensures whole { whole_of self.new ≡ whole_of self.old }
         ensures aborted { is_aborted self.new ≡ is_aborted self.old }
         ensures limits { self.new.limits ≡ self.old.limits }
     {
@@ -205,6 +231,7 @@ impl<P> Connection<P> {
         ensures err { OnErr result ((pending_of self.new ≡ pending_of self.old)
             × Keeps (W.contents writer.old) (W.contents writer.new)) }
         ensures place { place_of self.new ≡ place_of self.old }
+        ensures whole { whole_of self.new ≡ whole_of self.old }
         ensures aborted { is_aborted self.new ≡ is_aborted self.old }
         ensures limits { self.new.limits ≡ self.old.limits }
     {
@@ -215,7 +242,8 @@ impl<P> Connection<P> {
 }
 
 impl<P: Pieces + Drop> Connection<P> {
-    ghost use Rattle.http_connection.specs.Connections.{HoldsNoBlock, NeverStalls, RunsOn};
+    ghost use Rattle.http_connection.specs.Connections.{HoldsNoBlock, NeverStalls, RunsOn, Shows};
+    ghost use Rattle.http_connection.specs.Connections.{Stops, whole_of};
 
     /// Answers what has come, and writes one more piece where less than 64 KiB wait to be written.
     /// `room` bytes may still be pending beside those that it holds.
@@ -227,11 +255,43 @@ impl<P: Pieces + Drop> Connection<P> {
         ensures runs { RunsOn S.answers P.writes service.old self.old service.new self.new }
         ensures limits { self.new.limits ≡ self.old.limits }
         ensures rests { NeverStalls self.new }
+        ensures answered { whole_of self.new ≡ None }
+        ensures idle { HoldsNoBlock self.new }
+    {
+        self.go_on(service, room, false);
+    }
+
+    /// The same up to the next whole request, which isn't answered yet: `advance` answers it. Where
+    /// it has stopped at one, nothing is done.
+    pub fn advance_to_whole<S: Service<Pieces = P>>(&mut self, service: &mut S, room: usize)
+        ensures runs { RunsOn S.answers P.writes service.old self.old service.new self.new }
+        ensures limits { self.new.limits ≡ self.old.limits }
+        ensures rests { NeverStalls self.new }
+        ensures idle { HoldsNoBlock self.new }
+    {
+        self.go_on(service, room, true);
+    }
+
+    /// Answers what has come, where it pauses up to the next whole request.
+    fn go_on<S: Service<Pieces = P>>(&mut self, service: &mut S, room: usize, pauses: bool)
+        ensures runs { RunsOn S.answers P.writes service.old self.old service.new self.new }
+        ensures limits { self.new.limits ≡ self.old.limits }
+        ensures stops { Stops pauses self.new }
         ensures idle { HoldsNoBlock self.new }
     {
         let mut spans = [EMPTY_HEADER_SPAN; MAX_FIELDS];
         let budget = self.held().saturating_add(room);
-        self.run(service, budget, &mut spans);
+        self.run(service, budget, &mut spans, pauses);
         self.rest();
+    }
+
+    /// Shows a service the whole request at which it stopped, if it did, where this many bytes may
+    /// still be pending.
+    pub fn show<S: Gathers<Pieces = P>>(&self, service: &mut S, room: usize)
+        ensures { Shows S.gathers service.old (whole_of self.now) service.new }
+    {
+        if let Stage::Whole(request) = &self.stage {
+            service.gather(request, room);
+        }
     }
 }

@@ -18,4 +18,4 @@ mod steps;
 
 pub use connection::Connection;
 pub use limits::{Limits, Phase, Refusal};
-pub use service::{Pieces, Service};
+pub use service::{Gathers, Pieces, Service};

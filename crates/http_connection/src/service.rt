@@ -3,6 +3,7 @@
 ghost use Rattle.std.specs.Prelude.{◌≡◌, ℕ, List, [], ◌++◌, false, Option, IfOk, OnOk, OnErr};
 ghost use Rattle.http_server.specs.Response.{IsBlank};
 ghost use Rattle.http_connection.specs.Turns.{Turn, judged};
+ghost use Rattle.http.specs.declared.request.Request.{Request as HttpRequest};
 
 use crate::Refusal;
 use bytes::Bytes;
@@ -82,4 +83,25 @@ pub trait Service {
         requires { IsBlank response.old }
         ensures ok { OnOk result (answers self.old (Turn.Refused refusal response.new) self.new) }
         ensures err { OnErr result (self.new ≡ self.old) };
+}
+
+/// A service that is shown the whole requests of a round before it answers any of them, so that
+/// what their answers share is done once, as one write to a disk is.
+pub trait Gathers: Service {
+    // From the first state, it was shown this request, and the second state is left.
+    ghost gathers: { Self → HttpRequest (List ℕ) → Self → Type 0 };
+
+    // From the first state, it has done what the requests share that it was shown, and the second
+    // state is left.
+    ghost settles: { Self → Self → Type 0 };
+
+    /// Is shown a whole request, which it is asked to answer once it has settled, unless the
+    /// request's connection ends before. `room` bytes may still be pending. Nothing is answered by
+    /// this, and a request may be answered that it wasn't shown.
+    fn gather(&mut self, request: &Request<Bytes>, room: usize)
+        ensures { gathers self.old request.now self.new };
+
+    /// Does what the requests share that it was shown since the last call.
+    fn settle(&mut self)
+        ensures { settles self.old self.new };
 }

@@ -2,7 +2,7 @@
 
 ghost use Rattle.std.specs.Prelude.{◌≡◌, ◌⊎◌, ◌++◌, [], ◌<◌, ◌≤◌, ◌*◌, ◌+◌, ◌-◌, false, true};
 ghost use Rattle.std.specs.Prelude.{length, slice_range, vec_len, Some, IfNone, OnOk, IsFalse};
-ghost use Rattle.std.specs.Prelude.{IsTrue, if◌then◌else◌};
+ghost use Rattle.std.specs.Prelude.{IsSome, IsTrue, None, if◌then◌else◌};
 ghost use Rattle.http.specs.Request.{body_of, head_of, with_body};
 ghost use Rattle.http1.specs.Conn.{finish_text};
 ghost use Rattle.http1.specs.Framing.{method_kind};
@@ -38,30 +38,33 @@ fn set_body(request: &mut Request<Bytes>, body: Bytes)
 }
 
 impl<P: Pieces + Drop> Connection<P> {
-    ghost use Rattle.http_connection.specs.Connections.{Rests, RunsOn, WritesOn, is_aborted};
-    ghost use Rattle.http_connection.specs.Connections.{max_body_of, pending_of, place_of, work};
+    ghost use Rattle.http_connection.specs.Connections.{Rests, RunsOn, Stops, WritesOn, is_aborted};
+    ghost use Rattle.http_connection.specs.Connections.{max_body_of, pending_of, place_of, whole_of};
+    ghost use Rattle.http_connection.specs.Connections.{work};
     ghost use Rattle.http_connection.specs.Runs.{Place, IsOpen, Runs, asks_head, place_after};
     ghost use Rattle.http_connection.specs.Texts.{opening_text, piece_text, refusal_text};
 
-    /// Takes steps, and writes one more piece of an answer where the output is short.
+    /// Takes steps, and writes one more piece of an answer where the output is short. It stops at a
+    /// whole request where it pauses.
     pub(crate) fn run<S: Service<Pieces = P>>(
         &mut self,
         service: &mut S,
         budget: usize,
         spans: &mut [HeaderSpan],
+        pauses: bool,
     )
         ensures runs { RunsOn S.answers P.writes service.old self.old service.new self.new }
         ensures kept { self.new.limits ≡ self.old.limits }
-        ensures rests { Rests self.new }
+        ensures stops { Stops pauses self.new }
     {
-        self.run_steps(service, budget, spans);
-        if !self.wants_advance() {
+        self.run_steps(service, budget, spans, pauses);
+        if !self.wants_piece() {
             return;
         }
         if !self.write_piece() {
             return;
         }
-        self.run_steps(service, budget, spans);
+        self.run_steps(service, budget, spans, pauses);
     }
 
     /// Takes steps while there may be more to do.
@@ -70,30 +73,34 @@ impl<P: Pieces + Drop> Connection<P> {
         service: &mut S,
         budget: usize,
         spans: &mut [HeaderSpan],
+        pauses: bool,
     )
         ensures runs { RunsOn S.answers P.writes service.old self.old service.new self.new }
         ensures kept { self.new.limits ≡ self.old.limits }
-        ensures rests { Rests self.new }
+        ensures stops { Stops pauses self.new }
     {
-        while self.step(service, budget, spans) {}
+        while self.step(service, budget, spans, pauses) {}
     }
 
-    /// Takes one event from the input. Answers whether there may be more to do.
+    /// Takes one event from the input, or answers a whole request, unless it pauses. Answers whether
+    /// there may be more to do.
     fn step<S: Service<Pieces = P>>(
         &mut self,
         service: &mut S,
         budget: usize,
         spans: &mut [HeaderSpan],
+        pauses: bool,
     ) -> bool
         ensures runs { RunsOn S.answers P.writes service.old self.old service.new self.new }
         ensures kept { self.new.limits ≡ self.old.limits }
         ensures goes_on { IsTrue result → is_aborted self.new ≡ false }
-        ensures rests { IsFalse result → Rests self.new }
+        ensures stops { IsFalse result → Stops pauses self.new }
         ensures works { IsTrue result → work self.new < work self.old }
     {
         match self.stage {
             Stage::Head => self.read_head(service, budget, spans),
             Stage::Body => self.read_body(service, budget, spans),
+            Stage::Whole(_) => self.meet(service, budget, pauses),
             Stage::Discard(left) => self.discard(left, spans),
             Stage::Pieces(_) => false,
             Stage::Closing | Stage::Aborted => {
@@ -155,7 +162,7 @@ impl<P: Pieces + Drop> Connection<P> {
             Event::Data(piece) => self.take(service, budget, piece),
             Event::End(_) => {
                 self.input.bytes.advance(read.consumed);
-                self.answer(service, budget)
+                self.complete()
             }
             _ => {
                 self.input.bytes.advance(read.consumed);
@@ -166,9 +173,14 @@ impl<P: Pieces + Drop> Connection<P> {
 
     /// Waits for more, and ends where nothing more comes.
     fn wait(&mut self) -> bool
+        requires { whole_of self.old ≡ None }
         ensures stops { result ≡ false }
-        ensures stays { (self.new ≡ self.old)
-            ⊎ (self.new ≡ record self.old { stage = Stage.Closing }) }
+        ensures place { (place_of self.new ≡ place_of self.old)
+            ⊎ (place_of self.new ≡ Place.Over) }
+        ensures over { place_of self.old ≡ Place.Over → place_of self.new ≡ Place.Over }
+        ensures pending { pending_of self.new ≡ pending_of self.old }
+        ensures kept { self.new.limits ≡ self.old.limits }
+        ensures lives { is_aborted self.old ≡ false → is_aborted self.new ≡ false }
         ensures rests { Rests self.new }
     {
         if self.ended {
@@ -338,32 +350,61 @@ impl<P: Pieces + Drop> Connection<P> {
         self.body.extend_from_slice(input)
     }
 
-    /// Makes the bytes that were kept the body of the request, and copies none.
-    fn take_body(&mut self) -> Result<(), AllocError>
-        ensures head { head_of self.new.request ≡ head_of self.old.request }
-        ensures bound { length (body_of self.new.request) ≤ self.old.limits.max_body }
-        ensures body { OnOk result (body_of self.new.request ≡ self.old.body.items) }
-        ensures stage { self.new.stage ≡ self.old.stage }
+    /// Makes the request whole, with the bytes that were kept as its body, and copies none of them.
+    /// Answers whether there was memory for that.
+    fn complete(&mut self) -> bool
+        requires { self.old.stage ≡ Stage.Body }
+        ensures place { (place_of self.new ≡ place_of self.old)
+            ⊎ (place_of self.new ≡ Place.Over) }
+        ensures pending { is_aborted self.new ≡ false → pending_of self.new ≡ pending_of self.old }
+        ensures kept { self.new.limits ≡ self.old.limits }
+        ensures goes_on { IsTrue result → is_aborted self.new ≡ false }
+        ensures rests { IsFalse result → Rests self.new }
+        ensures works { IsTrue result → work self.new < work self.old }
+    {
+        let body = mem::replace(&mut self.body, Vec::new(self.alloc));
+        self.head_room = self.head_room.saturating_add(body.capacity());
+        let Ok(body) = Bytes::from_vec(body) else {
+            return self.abort();
+        };
+        let blank = blank_request(self.alloc, self.keys);
+        let mut request = mem::replace(&mut self.request, blank);
+        set_body(&mut request, body);
+        self.stage = Stage::Whole(request);
+        true
+    }
+
+    /// Has the service answer the whole request, unless it pauses there.
+    fn meet<S: Service<Pieces = P>>(&mut self, service: &mut S, budget: usize, pauses: bool) -> bool
+        requires { IsSome (whole_of self.old) }
+        ensures runs { RunsOn S.answers P.writes service.old self.old service.new self.new }
+        ensures kept { self.new.limits ≡ self.old.limits }
+        ensures goes_on { IsTrue result → is_aborted self.new ≡ false }
+        ensures stops { IsFalse result → Stops pauses self.new }
+        ensures works { IsTrue result → work self.new < work self.old }
+    {
+        if pauses {
+            return false;
+        }
+        self.answer(service, budget)
+    }
+
+    /// The whole request, which is taken out.
+    fn take_whole(&mut self) -> Option<Request<Bytes>>
+        ensures whole { result ≡ whole_of self.old }
         ensures output { self.new.output ≡ self.old.output }
+        ensures server { self.new.server ≡ self.old.server }
         ensures input { self.new.input ≡ self.old.input }
         ensures limits { self.new.limits ≡ self.old.limits }
     {
-        let body = mem::replace(&mut self.body, Vec::new(self.alloc));
-        match Bytes::from_vec(body) {
-            Ok(body) => {
-                set_body(&mut self.request, body);
-                Ok(())
-            }
-            Err(_) => {
-                set_body(&mut self.request, Bytes::new());
-                Err(AllocError)
-            }
+        match mem::replace(&mut self.stage, Stage::Head) {
+            Stage::Whole(request) => Some(request),
+            _ => None,
         }
     }
 
     /// Has the service answer the request, which is whole.
     fn answer<S: Service<Pieces = P>>(&mut self, service: &mut S, budget: usize) -> bool
-        requires { self.old.stage ≡ Stage.Body }
         ensures runs { RunsOn S.answers P.writes service.old self.old service.new self.new }
         ensures kept { self.new.limits ≡ self.old.limits }
         ensures goes_on { IsTrue result → is_aborted self.new ≡ false }
@@ -371,14 +412,14 @@ impl<P: Pieces + Drop> Connection<P> {
         ensures works { IsTrue result → work self.new < work self.old }
     {
         let room = budget.saturating_sub(self.held());
-        let Ok(()) = self.take_body() else {
+        let Some(request) = self.take_whole() else {
             return self.abort();
         };
         let mut response = Response::new(self.alloc);
-        let Ok(pieces) = service.call(&self.request, room, &mut response) else {
+        let Ok(pieces) = service.call(&request, room, &mut response) else {
             return self.abort();
         };
-        let is_head = is_head(self.request.method());
+        let is_head = is_head(request.method());
         self.release_request();
         match pieces {
             None => self.reply(&mut response, is_head),
@@ -394,7 +435,7 @@ impl<P: Pieces + Drop> Connection<P> {
         ensures kept { self.new.limits ≡ self.old.limits }
         ensures goes_on { IsTrue result → is_aborted self.new ≡ false }
         ensures rests { IsFalse result → Rests self.new }
-        ensures works { IsTrue result → work self.new ≡ 2 * length self.old.input.bytes.items }
+        ensures works { IsTrue result → work self.new ≡ 3 * length self.old.input.bytes.items }
     {
         let written = write_whole(
             self.alloc,
@@ -418,7 +459,7 @@ impl<P: Pieces + Drop> Connection<P> {
         ensures kept { self.new.limits ≡ self.old.limits }
         ensures goes_on { IsTrue result → is_aborted self.new ≡ false }
         ensures rests { IsFalse result → Rests self.new }
-        ensures works { IsTrue result → work self.new ≡ 2 * length self.old.input.bytes.items }
+        ensures works { IsTrue result → work self.new ≡ 3 * length self.old.input.bytes.items }
     {
         let written = write_head(
             self.alloc,
@@ -484,7 +525,7 @@ impl<P: Pieces + Drop> Connection<P> {
         ensures kept { self.new.limits ≡ self.old.limits }
         ensures goes_on { IsTrue result → is_aborted self.new ≡ false }
         ensures rests { IsFalse result → Rests self.new }
-        ensures works { IsTrue result → work self.new ≡ 2 * length self.old.input.bytes.items }
+        ensures works { IsTrue result → work self.new ≡ 3 * length self.old.input.bytes.items }
     {
         match self.server.write_end(&mut self.output, &[]) {
             Ok(()) => self.end_answer(),
@@ -495,8 +536,10 @@ impl<P: Pieces + Drop> Connection<P> {
     /// Goes on with the next request, or ends where the answer said so.
     fn end_answer(&mut self) -> bool
         ensures goes_on { result ≡ true }
-        ensures stage { (self.new ≡ record self.old { stage = Stage.Head })
-            ⊎ (self.new ≡ record self.old { stage = Stage.Closing }) }
+        ensures stage { (self.new.stage ≡ Stage.Head) ⊎ (self.new.stage ≡ Stage.Closing) }
+        ensures output { self.new.output ≡ self.old.output }
+        ensures input { self.new.input ≡ self.old.input }
+        ensures limits { self.new.limits ≡ self.old.limits }
     {
         if self.server.is_closed() {
             self.stage = Stage::Closing;

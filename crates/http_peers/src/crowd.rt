@@ -7,7 +7,7 @@ ghost use Rattle.http_peers.specs.Waiting.{IsLongest};
 
 use crate::peer::{Peer, Turn};
 use crate::{Accepting, Due, Longest, Pending, Settings, Stage, Waiter};
-use http_connection::{Connection, Pieces, Service};
+use http_connection::{Connection, Gathers, Pieces, Service};
 use mio::net::{TcpListener, TcpStream};
 use mio::{Interest, Poll, Token};
 use slab::Slab;
@@ -294,13 +294,63 @@ where
         ensures rest { self.new
             ≡ record self.old { peers = self.new.peers; pending = self.new.pending } }
     {
-        let room = usize::try_from(self.pending.room()).unwrap_or(usize::MAX);
+        self.give_turn(service, key, false);
+    }
+
+    /// Gives a peer its turn up to a whole request, which is shown to the service.
+    pub(crate) fn gather<S: Gathers<Pieces = P>>(&mut self, service: &mut S, key: usize)
+        ensures gone { get self.old.peers key ≡ None → get self.new.peers key ≡ None }
+        ensures others { SameBeside key self.old.peers self.new.peers }
+        ensures lives { IfSome (get self.old.peers key) IsLive
+            → IfSome (get self.new.peers key) IsLive }
+        ensures rest { self.new
+            ≡ record self.old { peers = self.new.peers; pending = self.new.pending } }
+    {
+        self.give_turn(service, key, true);
+        let room = self.room();
+        if let Some(peer) = self.peers.get(key) {
+            peer.show(service, room);
+        }
+    }
+
+    /// Gives a peer a turn where it stopped at a whole request.
+    pub(crate) fn answer<S: Service<Pieces = P>>(&mut self, service: &mut S, key: usize)
+        ensures gone { get self.old.peers key ≡ None → get self.new.peers key ≡ None }
+        ensures others { SameBeside key self.old.peers self.new.peers }
+        ensures lives { IfSome (get self.old.peers key) IsLive
+            → IfSome (get self.new.peers key) IsLive }
+        ensures rest { self.new
+            ≡ record self.old { peers = self.new.peers; pending = self.new.pending } }
+    {
+        let Some(peer) = self.peers.get(key) else {
+            return;
+        };
+        if peer.is_whole() {
+            self.serve(service, key);
+        }
+    }
+
+    /// How many further bytes may be pending.
+    fn room(&self) -> usize {
+        usize::try_from(self.pending.room()).unwrap_or(usize::MAX)
+    }
+
+    /// Gives a peer its turn, where it pauses up to a whole request.
+    fn give_turn<S: Service<Pieces = P>>(&mut self, service: &mut S, key: usize, pauses: bool)
+        ensures gone { get self.old.peers key ≡ None → get self.new.peers key ≡ None }
+        ensures others { SameBeside key self.old.peers self.new.peers }
+        ensures lives { IfSome (get self.old.peers key) IsLive
+            → IfSome (get self.new.peers key) IsLive }
+        ensures rest { self.new
+            ≡ record self.old { peers = self.new.peers; pending = self.new.pending } }
+    {
+        let room = self.room();
         let rt = self.rt;
         let Some(peer) = self.peers.get_mut(key) else {
             return;
         };
         let before = peer.held();
-        let turn = peer.serve(service, room, &rt);
+        let turn = peer.turn(service, room, &rt, pauses);
         let after = peer.held();
         self.pending.change(before, after);
         match turn {

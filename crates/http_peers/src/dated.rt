@@ -5,7 +5,7 @@ ghost use Rattle.http_peers.specs.Moments.{MayBeDated};
 
 use bytes::Bytes;
 use http::Request;
-use http_connection::{Refusal, Service};
+use http_connection::{Gathers, Refusal, Service};
 use http_server::Response;
 use response_date::say_date;
 use std::alloc::{AllocError, Global};
@@ -87,5 +87,19 @@ impl<S: Service, R: Clock> Service for Dated<S, R> {
         self.service.refuse(refusal, head, response)?;
         self.say(response);
         Ok(())
+    }
+}
+
+impl<S: Gathers, R: Clock> Gathers for Dated<S, R> {
+    ghost gathers = { λ old request new. S.gathers old.service request new.service };
+
+    ghost settles = { λ old new. S.settles old.service new.service };
+
+    fn gather(&mut self, request: &Request<Bytes>, room: usize) {
+        self.service.gather(request, room);
+    }
+
+    fn settle(&mut self) {
+        self.service.settle();
     }
 }

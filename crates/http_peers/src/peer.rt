@@ -1,8 +1,9 @@
 //! A peer that has connected.
 ghost use Rattle.std.specs.Prelude.{◌≡◌, ◌≢◌, ◌<◌, ◌↔◌, Err, IfErr, IfOk, Ok, OnOk, Some, false, length};
-ghost use Rattle.std.specs.Prelude.{min, true};
+ghost use Rattle.std.specs.Prelude.{IsSome, IsTrue, None, min, true};
 ghost use Rattle.std.specs.IoError.{error_kind};
-ghost use Rattle.http_connection.specs.Connections.{held_of, pending_of, phase_of, place_of};
+ghost use Rattle.http_connection.specs.Connections.{RunsOn, Shows, held_of, pending_of, phase_of};
+ghost use Rattle.http_connection.specs.Connections.{place_of, whole_of};
 ghost use Rattle.http_peers.specs.Clocks.{IsOver, due_at, is_of_requests};
 ghost use Rattle.http_peers.specs.Crowds.{IsLive, IsShut, clock_of};
 ghost use Rattle.http_peers.specs.Serving.{IsSeen, Serves, connection_of};
@@ -12,7 +13,7 @@ ghost use Rattle.http_peers.specs.declared.clock.Stage.TheVariants.{Idle};
 
 use crate::crowd::now_ms;
 use crate::{Due, PeerClock, Sight, Stage, StageTimes};
-use http_connection::{Connection, Phase, Pieces, Service};
+use http_connection::{Connection, Gathers, Phase, Pieces, Service};
 use std::io::{self, ErrorKind, Read, Write};
 use std::time::Clock;
 
@@ -73,6 +74,13 @@ impl<T, P> Peer<T, P> {
         ensures { result ≡ clock_of self.now }
     {
         self.clock
+    }
+
+    /// Whether it stopped at a whole request, which its next turn answers.
+    pub fn is_whole(&self) -> bool
+        ensures { IsTrue result ↔ IsSome (whole_of (connection_of self.now)) }
+    {
+        self.connection.is_whole()
     }
 
     /// How many bytes of memory its connection holds.
@@ -160,6 +168,8 @@ impl<T: Read + Write, P> Peer<T, P> {
         ensures wrote { IfOk result (λ wrote. wrote ≡ false
             → pending_of (connection_of self.new) ≡ pending_of (connection_of self.old)) }
         ensures place { place_of (connection_of self.new) ≡ place_of (connection_of self.old) }
+        ensures whole { whole_of (connection_of self.new)
+            ≡ whole_of (connection_of self.old) }
         ensures limits { (connection_of self.new).limits ≡ (connection_of self.old).limits }
     {
         if self.is_shut || !self.connection.wants_write() {
@@ -176,6 +186,8 @@ impl<T: Read + Write, P> Peer<T, P> {
     fn read_bytes(&mut self) -> io::Result<bool>
         ensures pending { pending_of (connection_of self.new) ≡ pending_of (connection_of self.old) }
         ensures place { place_of (connection_of self.new) ≡ place_of (connection_of self.old) }
+        ensures whole { whole_of (connection_of self.new)
+            ≡ whole_of (connection_of self.old) }
         ensures limits { (connection_of self.new).limits ≡ (connection_of self.old).limits }
     {
         if !self.connection.wants_read() {
@@ -189,6 +201,8 @@ impl<T: Read + Write, P> Peer<T, P> {
         ensures wrote { IfOk result (λ moved. moved.wrote ≡ false
             → pending_of (connection_of self.new) ≡ pending_of (connection_of self.old)) }
         ensures place { place_of (connection_of self.new) ≡ place_of (connection_of self.old) }
+        ensures whole { whole_of (connection_of self.new)
+            ≡ whole_of (connection_of self.old) }
         ensures limits { (connection_of self.new).limits ≡ (connection_of self.old).limits }
     {
         let wrote = self.write_bytes()?;
@@ -207,6 +221,8 @@ impl<T: Read + Write, P: Pieces + Drop> Peer<T, P> {
             → is_of_requests (clock_of self.new).stage ≡ true
             → (clock_of self.new).since_ms ≡ at_ms }
         ensures place { place_of (connection_of self.new) ≡ place_of (connection_of self.old) }
+        ensures whole { whole_of (connection_of self.new)
+            ≡ whole_of (connection_of self.old) }
         ensures limits { (connection_of self.new).limits ≡ (connection_of self.old).limits }
     {
         let Ok(moved) = self.move_bytes() else {
@@ -221,29 +237,54 @@ impl<T: Read + Write, P: Pieces + Drop> Peer<T, P> {
         }
     }
 
-    /// Answers what has come, and then writes and reads once. `None` where it can go on at once.
+    /// Answers what has come, where it pauses up to a whole request.
+    fn advance<S: Service<Pieces = P>>(&mut self, service: &mut S, room: usize, pauses: bool)
+        ensures runs { RunsOn S.answers P.writes service.old (connection_of self.old)
+            service.new (connection_of self.new) }
+        ensures answered { pauses ≡ false → whole_of (connection_of self.new) ≡ None }
+        ensures rest { self.new ≡ record self.old { connection = self.new.connection } }
+        ensures limits { (connection_of self.new).limits ≡ (connection_of self.old).limits }
+    {
+        if pauses {
+            self.connection.advance_to_whole(service, room);
+        } else {
+            self.connection.advance(service, room);
+        }
+    }
+
+    /// Answers what has come, where it pauses up to a whole request, and then writes and reads once.
+    /// `None` where it can go on at once.
     fn step<S: Service<Pieces = P>, R: Clock>(
         &mut self,
         service: &mut S,
         room: usize,
         rt: &R,
+        pauses: bool,
     ) -> Option<Turn>
         ensures seen { result ≢ Some Turn.Ends → IsSeen self.new }
         ensures lives { result ≢ Some Turn.Ends → IsLive self.new }
         ensures served { Serves S.answers P.writes service.old self.old service.new self.new }
+        ensures answered { pauses ≡ false → whole_of (connection_of self.new) ≡ None }
         ensures limits { (connection_of self.new).limits ≡ (connection_of self.old).limits }
     {
-        let makes_piece = self.connection.wants_advance();
-        self.connection.advance(service, room);
+        let answers = self.connection.is_whole();
+        let advances = self.connection.wants_advance();
+        self.advance(service, room, pauses);
         // An answer may have taken long, and what comes after it has its time from then on. While a
         // piece is made, the client isn't waited for. One that takes nothing gets no more.
         let at_ms = now_ms(rt);
-        self.note(makes_piece, at_ms);
+        self.note(advances, at_ms);
         let turn = self.go_on(at_ms);
-        if makes_piece && turn.is_none() {
+        if turn.is_some() {
+            return turn;
+        }
+        if self.connection.is_whole() {
+            return Some(Turn::Waits);
+        }
+        if advances && !answers {
             return Some(Turn::Again);
         }
-        turn
+        None
     }
 
     /// Reads, answers and writes, until the stream would have to be waited for, or others are to
@@ -259,14 +300,40 @@ impl<T: Read + Write, P: Pieces + Drop> Peer<T, P> {
         ensures seen { result ≢ Turn.Ends → IsSeen self.new }
         ensures lives { IsLive self.old → result ≢ Turn.Ends → IsLive self.new }
         ensures served { Serves S.answers P.writes service.old self.old service.new self.new }
+        ensures answered { whole_of (connection_of self.new) ≡ None }
         ensures limits { (connection_of self.new).limits ≡ (connection_of self.old).limits }
     {
-        for _ in 0..STEPS {
-            if let Some(turn) = self.step(service, room, rt) {
+        self.turn(service, room, rt, false)
+    }
+
+    /// The same, where it pauses up to a whole request: the turn is over there.
+    pub(crate) fn turn<S: Service<Pieces = P>, R: Clock>(
+        &mut self,
+        service: &mut S,
+        room: usize,
+        rt: &R,
+        pauses: bool,
+    ) -> Turn
+        ensures seen { result ≢ Turn.Ends → IsSeen self.new }
+        ensures lives { IsLive self.old → result ≢ Turn.Ends → IsLive self.new }
+        ensures served { Serves S.answers P.writes service.old self.old service.new self.new }
+        ensures answered { pauses ≡ false → whole_of (connection_of self.new) ≡ None }
+        ensures limits { (connection_of self.new).limits ≡ (connection_of self.old).limits }
+    {
+        for _done in 0..STEPS {
+            if let Some(turn) = self.step(service, room, rt, pauses) {
                 return turn;
             }
         }
         self.note(false, now_ms(rt));
         Turn::Again
+    }
+
+    /// Shows a service the whole request at which it stopped, if it did, where as many bytes as
+    /// `room` says may still be pending.
+    pub fn show<S: Gathers<Pieces = P>>(&self, service: &mut S, room: usize)
+        ensures { Shows S.gathers service.old (whole_of (connection_of self.now)) service.new }
+    {
+        self.connection.show(service, room);
     }
 }

@@ -6,7 +6,7 @@ ghost use Rattle.http_peers.specs.Rounds.{HasStopped, IsDone, end_of, peers_of, 
 
 use crate::crowd::{Crowd, LISTENER, now_ms};
 use crate::{Settings, TICK_MS};
-use http_connection::{Pieces, Service};
+use http_connection::{Gathers, Pieces, Service};
 use mio::net::TcpListener;
 use mio::unix::SourceFd;
 use mio::{Events, Interest, Token};
@@ -148,6 +148,43 @@ where
         is_to_stop
     }
 
+    /// Serves the peers that were reported up to a whole request, which is shown to the service.
+    /// Answers whether the program is to stop.
+    fn gather_reported<S: Gathers<Pieces = P>>(&mut self, service: &mut S) -> bool
+        ensures settings { settings_of self.new ≡ settings_of self.old }
+        ensures listener { self.new.crowd.listener ≡ self.old.crowd.listener }
+        ensures joins { NoneJoins (peers_of self.old) (peers_of self.new) }
+        ensures end { end_of self.new ≡ end_of self.old }
+        ensures swept { swept_at self.new ≡ swept_at self.old }
+    {
+        let mut is_to_stop = false;
+        for event in self.events.iter() {
+            let token = event.token();
+            if token == LISTENER {
+                self.crowd.accepting = self.crowd.accepting.reported();
+            } else if token == STOP {
+                is_to_stop = true;
+            } else {
+                self.crowd.gather(service, token.0);
+            }
+        }
+        is_to_stop
+    }
+
+    /// Has those of the peers that were reported answered that stopped at a whole request.
+    fn answer_reported<S: Service<Pieces = P>>(&mut self, service: &mut S)
+        ensures settings { settings_of self.new ≡ settings_of self.old }
+        ensures listener { self.new.crowd.listener ≡ self.old.crowd.listener }
+        ensures joins { NoneJoins (peers_of self.old) (peers_of self.new) }
+        ensures end { end_of self.new ≡ end_of self.old }
+        ensures swept { swept_at self.new ≡ swept_at self.old }
+    {
+        for event in self.events.iter() {
+            // (no peer has the key of the listener, or of what asks to stop)
+            self.crowd.answer(service, event.token().0);
+        }
+    }
+
     /// Accepts the peers that wait, if that is due at this moment. Answers how many they were.
     fn accept(&mut self, at_ms: u64) -> usize
         ensures settings { settings_of self.new ≡ settings_of self.old }
@@ -183,6 +220,50 @@ where
         }
     }
 
+    /// Waits until a peer is ready, a tick at most. Answers the moment then, in milliseconds.
+    ///
+    /// # Errors
+    ///
+    /// `Wait` where the system refuses to wait.
+    fn wait(&mut self) -> Result<u64, End>
+        ensures settings { settings_of self.new ≡ settings_of self.old }
+        ensures listener { self.new.crowd.listener ≡ self.old.crowd.listener }
+        ensures peers { peers_of self.new ≡ peers_of self.old }
+        ensures end { end_of self.new ≡ end_of self.old }
+        ensures swept { swept_at self.new ≡ swept_at self.old }
+    {
+        let wait = Duration::from_millis(self.crowd.accepting.wait_ms());
+        if self.crowd.poll.poll(&mut self.events, Some(wait)).is_err() {
+            return Err(End::Wait);
+        }
+        // A peer is closed at the end by the moment before the turns: what it sent during the turns
+        // of others is read in the next round, before it is judged by a later moment.
+        Ok(now_ms(&self.crowd.rt))
+    }
+
+    /// Accepts further peers, and closes those that are over their time, after the turns of a round
+    /// that began at this moment.
+    fn end_round(&mut self, at_ms: u64, is_to_stop: bool) -> Round
+        ensures at { result.at_ms ≡ at_ms }
+        ensures in_time { swept_at self.old + 500 ≤ at_ms
+            → AreInTime (settings_of self.old).times at_ms (peers_of self.new) }
+        ensures swept { swept_at self.new
+            ≡ (if nat_le (swept_at self.old + 500) at_ms then at_ms else swept_at self.old) }
+        ensures settings { settings_of self.new ≡ settings_of self.old }
+        ensures stopped { HasStopped self.old → HasStopped self.new }
+        ensures none { HasStopped self.old → result.accepted ≡ 0 }
+        ensures joins { HasStopped self.old → NoneJoins (peers_of self.old) (peers_of self.new) }
+        ensures end { end_of self.new ≡ end_of self.old }
+    {
+        let accepted = self.accept(at_ms);
+        self.sweep(at_ms);
+        Round {
+            accepted,
+            at_ms,
+            is_to_stop,
+        }
+    }
+
     /// Waits until a peer is ready, a tick at most; gives those that are their turns, accepts
     /// further ones, and closes those that are over their time.
     ///
@@ -201,20 +282,39 @@ where
         ensures joins { HasStopped self.old → NoneJoins (peers_of self.old) (peers_of self.new) }
         ensures end { end_of self.new ≡ end_of self.old }
     {
-        let wait = Duration::from_millis(self.crowd.accepting.wait_ms());
-        if self.crowd.poll.poll(&mut self.events, Some(wait)).is_err() {
-            return Err(End::Wait);
-        }
-        // A peer is closed at the end by the moment before the turns: what it sent during the turns
-        // of others is read in the next round, before it is judged by a later moment.
-        let at_ms = now_ms(&self.crowd.rt);
+        let at_ms = match self.wait() {
+            Ok(at_ms) => at_ms,
+            Err(end) => return Err(end),
+        };
         let is_to_stop = self.serve_reported(service);
-        let accepted = self.accept(at_ms);
-        self.sweep(at_ms);
-        Ok(Round {
-            accepted,
-            at_ms,
-            is_to_stop,
-        })
+        Ok(self.end_round(at_ms, is_to_stop))
+    }
+
+    /// The same, but that the service is first shown the whole requests of all peers that are ready,
+    /// then settles, and answers them after that: what their answers share is done once.
+    ///
+    /// # Errors
+    ///
+    /// `Wait` where the system refuses to wait.
+    pub fn round_together<S: Gathers<Pieces = P>>(&mut self, service: &mut S) -> Result<Round, End>
+        ensures in_time { IfOk result (λ round. swept_at self.old + 500 ≤ round.at_ms
+            → AreInTime (settings_of self.old).times round.at_ms (peers_of self.new)) }
+        ensures swept { IfOk result (λ round. swept_at self.new
+            ≡ (if nat_le (swept_at self.old + 500) round.at_ms then round.at_ms
+            else swept_at self.old)) }
+        ensures settings { settings_of self.new ≡ settings_of self.old }
+        ensures stopped { HasStopped self.old → HasStopped self.new }
+        ensures none { HasStopped self.old → IfOk result (λ round. round.accepted ≡ 0) }
+        ensures joins { HasStopped self.old → NoneJoins (peers_of self.old) (peers_of self.new) }
+        ensures end { end_of self.new ≡ end_of self.old }
+    {
+        let at_ms = match self.wait() {
+            Ok(at_ms) => at_ms,
+            Err(end) => return Err(end),
+        };
+        let is_to_stop = self.gather_reported(service);
+        service.settle();
+        self.answer_reported(service);
+        Ok(self.end_round(at_ms, is_to_stop))
     }
 }
