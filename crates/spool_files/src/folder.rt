@@ -36,12 +36,12 @@ fn failed(error: io::Error) -> DeviceError {
     }
 }
 
-/// The number in the name of a file of a spool.
+/// The number in the name of a file of a spool. A sign is no digit, though `parse` takes one.
 fn number_in(name: &str) -> Option<u64>
     ensures { IfSome result (λ number. number < 2 ^ 63) }
 {
     let digits = name.strip_suffix(SUFFIX)?;
-    if digits.len() != DIGITS {
+    if digits.len() != DIGITS || digits.starts_with('+') {
         return None;
     }
     let number = digits.parse::<u64>().ok()?;
@@ -57,12 +57,13 @@ fn path_of(alloc: Global, folder: &str, number: u64) -> Result<String, AllocErro
 }
 
 impl SpoolFolder {
-    /// Opens a folder, which is made if it isn't there, and syncs it and what is in it. Files with other
-    /// names are left alone.
+    /// Opens a folder, which is made if it isn't there, and syncs it and what is in it. The folder
+    /// above it has to be there. Files with other names than those of a spool are left alone.
     ///
     /// # Errors
     ///
-    /// `Failed`: the folder can't be made, read or written, or another process has it open. `Memory`.
+    /// `Failed`: the folder can't be made, read or written, or another process has it open.
+    /// `Memory`.
     pub fn open(rt: &HostRuntime, folder: &str) -> Result<SpoolFolder, DeviceError> {
         let alloc = rt.alloc();
         make_folder(rt, folder)?;
