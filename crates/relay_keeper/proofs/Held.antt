@@ -1,5 +1,5 @@
 -- What a hold of the lock shows.
-use Rattle.std.proofs.Common.{◌≡◌, ℕ, List, true, false}
+use Rattle.std.proofs.Common.{◌≡◌, ℕ, List, [], true, false}
 use Rattle.std.specs.Prelude.{Result, Ok, Err, OnOk}
 use Rattle.spool_device.specs.Disks.{Disk}
 use Rattle.relay_keeper.specs.Kept.{Admits, Kept, Puts}
@@ -14,5 +14,17 @@ pub keeps-in : {D : Type 0} (known : Type 0) (files : D → Disk) (moment : D �
     → Puts files moment left_at body old.spool new.spool)
     → OnOk result (KeepsInHold known files moment left_at body)
 keeps-in known files moment left_at (Ok v) old new body spans admits puts =
-    record { old = old; new = new; spans = spans; admitted = admits; put = puts }
+    record {
+      old = old;
+      new = new;
+      spans = spans;
+      admitted = admits;
+      put = λ is k. record {
+        number = (puts is k).number;
+        before = [];
+        later = [];
+        waits = (puts is k).waits;
+        settled = (puts is k).settled;
+      };
+    }
 keeps-in known files moment left_at (Err e) old new body spans admits puts = tt

@@ -2,3 +2,4 @@ mod Fronts
 mod Waits
 mod Sound
 mod Held
+mod Together

@@ -15,7 +15,7 @@ use Rattle.spool.specs.Spools.{numbered_from}
 use Rattle.spool.specs.Settled.{IsSettled}
 use Rattle.relay_keeper.specs.Fronts.{AreFirst, BeginWith, IsInUse, spool_waiting}
 use Rattle.relay_keeper.specs.Inside.{IsSound}
-use Rattle.relay_keeper.specs.Kept.{AdmitsFirst, Puts}
+use Rattle.relay_keeper.specs.Kept.{AdmitsFirst, PutsAll}
 use Rattle.relay_keeper.specs.declared.keeping.Keeping.TheInside.{Inside}
 use Rattle.relay_keeper.proofs.Fronts.{begin-front, begin-some, ended-count, front-ended, notes-end}
 use Rattle.relay_keeper.proofs.Fronts.{out-or-not}
@@ -114,16 +114,16 @@ module _ {D : Type 0} (known : Type 0) (files : D → Disk) (moment : D → ℕ)
       subst (λ (o : Option _). IfSome o (IsInUse files moment left_at k.first k.desk.kept))
       (sym spool) (s.in_use known (sym spooled ∙ is) (sym failed ∙ not)))
 
-  -- A body was put.
-  pub sound-put : (k k' : Inside D) (body : List ℕ) → Sound k → k.has_failed ≡ false
-      → IsSome k.spool → (known → Puts files moment left_at body k.spool k'.spool)
+  -- Bodies were put.
+  pub sound-put : (k k' : Inside D) (bodies : List (List ℕ)) → Sound k → k.has_failed ≡ false
+      → IsSome k.spool → (known → PutsAll files moment left_at bodies k.spool k'.spool)
       → k'.desk ≡ k.desk → k'.first ≡ k.first → k'.is_spooled ≡ k.is_spooled → Sound k'
-  sound-put k k' body s well there puts desk first spooled =
+  sound-put k k' bodies s well there puts desk first spooled =
       sound-with k k' s (subst HasHistory (sym desk) s.history)
       (ap (λ (d : BodyDesk). d.kept) desk) first
       (λ is. sym spooled ∙ is)
       (λ known is not.
-      use-put files moment left_at k.first k.desk.kept body k.spool k'.spool there
+      use-put files moment left_at k.first k.desk.kept bodies k.spool k'.spool there
       (s.in_use known (sym spooled ∙ is) well) (puts known))
 
   -- A batch was taken: the same bodies are kept.

@@ -10,7 +10,7 @@ use Rattle.spool.specs.Spools.{done_to, numbered_from, waiting, waiting_from, wa
 use Rattle.spool.specs.Settled.{IsSettled}
 use Rattle.spool.specs.declared.state.Spool.{Spool}
 use Rattle.relay_keeper.specs.Fronts.{AreFirst, BeginWith, IsInUse, spool_waiting}
-use Rattle.relay_keeper.specs.Kept.{Puts}
+use Rattle.relay_keeper.specs.Kept.{PutsAll}
 use Rattle.relay_keeper.proofs.Fronts.{front-more, front-none, front-noted}
 
 module _ {D : Type 0} (files : D → Disk) (moment : D → ℕ) (left_at : D → ℕ → Disk → Type 0) where
@@ -44,15 +44,15 @@ module _ {D : Type 0} (files : D → Disk) (moment : D → ℕ) (left_at : D →
   use-none number spool settled =
       use-of number [] spool settled (front-none number (spool_waiting files spool))
 
-  -- After a body was put.
-  pub use-put : (number : ℕ) (bodies : List (List ℕ)) (body : List ℕ) (old new : Option (Spool D))
+  -- After further bodies were put.
+  pub use-put : (number : ℕ) (bodies more : List (List ℕ)) (old new : Option (Spool D))
       → IsSome old → IfSome old (IsInUse files moment left_at number bodies)
-      → Puts files moment left_at body old new
+      → PutsAll files moment left_at more old new
       → IfSome new (IsInUse files moment left_at number bodies)
-  use-put number bodies body old new there held puts =
+  use-put number bodies more old new there held puts =
       use-of number bodies new puts.settled
       (subst (AreFirst number bodies) (sym puts.waits)
-      (front-more number bodies (spool_waiting files old) ((puts.number, body) ∷ [])
+      (front-more number bodies (spool_waiting files old) (enumerate_from puts.first more)
       (use-first number bodies old there held)))
 
   -- After the same waits.

@@ -11,20 +11,21 @@ use Rattle.body_sending.specs.Steps.{Attempts}
 use Rattle.body_sending.specs.Holds.{IsRefused, MayNotTakeInHold, Sends, early_at}
 use Rattle.spool_device.specs.Disks.{Disk}
 use Rattle.relay_service.specs.declared.stats.Report.{Report}
-use Rattle.relay_keeper.specs.Kept.{Admits, IsFull, IsReport, Kept, Puts}
+use Rattle.relay_keeper.specs.Kept.{Admits, IsFull, IsReport, Kept, PutsAmong}
 use Rattle.relay_keeper.specs.declared.shared.Tried.{Tried}
 use Rattle.relay_keeper.specs.declared.shared.Tried.TheVariants as tried
 
 -- ---- bodies that are kept
 
--- In a hold, a body was kept: at the desk, or in the spool, where it is on the disk.
+-- In a hold, a body was kept: at the desk, or in the spool, where it is on the disk, alone or with
+-- others that were put with it.
 pub record KeepsInHold {D : Type 0} (known : Type 0) (files : D → Disk) (moment : D → ℕ)
     (left_at : D → ℕ → Disk → Type 0) (body : List ℕ) : Type 0 where
   pub old : Kept D
   pub new : Kept D
   pub spans : ℕ
   pub admitted : old.is_spooled ≡ false → Admits body spans old new
-  pub put : old.is_spooled ≡ true → known → Puts files moment left_at body old.spool new.spool
+  pub put : old.is_spooled ≡ true → known → PutsAmong files moment left_at body old.spool new.spool
 
 -- In a hold, a body had no room: at the desk, or in the spool, or it is above the memory that
 -- bodies

@@ -4,6 +4,7 @@ use Rattle.std.specs.Prelude.{◌++◌, if◌then◌else◌, Option, IfSome, len
 use Rattle.model_body.specs.Histories as events
 use Rattle.model_body.specs.Desks.{BodyDesk, Does, HasRoom, after}
 use Rattle.body_sending.specs.Holds.{HasHistory}
+use Rattle.std.specs.List.{enumerate_from}
 use Rattle.spool_device.specs.Disks.{Disk}
 use Rattle.spool.specs.Spools.{HasNoRoom}
 use Rattle.spool.specs.Settled.{IsSettled, device_of, limit_of}
@@ -73,10 +74,34 @@ pub record Puts {D : Type 0} (files : D → Disk) (moment : D → ℕ)
   pub waits : spool_waiting files new ≡ spool_waiting files old ++ (number, body) ∷ []
   pub settled : IfSome new (IsSettled files moment left_at)
 
+-- Bodies wait in the spool, after the others, under numbers from a first one on, and what waits is
+-- on the disk.
+pub record PutsAll {D : Type 0} (files : D → Disk) (moment : D → ℕ)
+    (left_at : D → ℕ → Disk → Type 0) (bodies : List (List ℕ)) (old new : Option (Spool D))
+    : Type 0 where
+  pub first : ℕ
+  pub waits : spool_waiting files new ≡ spool_waiting files old ++ enumerate_from first bodies
+  pub settled : IfSome new (IsSettled files moment left_at)
+
+-- A body waits in the spool, under a number, after the others that waited, with those that were put
+-- with it before and after it, and what waits is on the disk.
+pub record PutsAmong {D : Type 0} (files : D → Disk) (moment : D → ℕ)
+    (left_at : D → ℕ → Disk → Type 0) (body : List ℕ) (old new : Option (Spool D)) : Type 0 where
+  pub number : ℕ
+  pub before : List (ℕ × List ℕ)
+  pub later : List (ℕ × List ℕ)
+  pub waits : spool_waiting files new
+      ≡ spool_waiting files old ++ (before ++ (number, body) ∷ later)
+  pub settled : IfSome new (IsSettled files moment left_at)
+
+-- Bodies have no room in a spool.
+abbrev pub AreFull : {D : Type 0} → (D → Disk) → List (List ℕ) → Option (Spool D) → Type 0
+AreFull files bodies spool =
+    IfSome spool (λ s. HasNoRoom (files (device_of s)) bodies (limit_of s))
+
 -- A body has no room in a spool.
 abbrev pub IsFull : {D : Type 0} → (D → Disk) → List ℕ → Option (Spool D) → Type 0
-IsFull files body spool =
-    IfSome spool (λ s. HasNoRoom (files (device_of s)) (body ∷ []) (limit_of s))
+IsFull files body spool = AreFull files (body ∷ []) spool
 
 -- ---- bodies that are read from a spool
 

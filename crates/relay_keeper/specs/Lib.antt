@@ -3,3 +3,5 @@ pub mod Fronts
 pub mod Kept
 pub mod Inside
 pub mod Holds
+pub mod Together
+pub mod Sharing

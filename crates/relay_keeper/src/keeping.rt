@@ -2,6 +2,7 @@
 ghost use Rattle.std.specs.Prelude.{◌≡◌, ◌≢◌, ◌⊎◌, ◌+◌, ◌^◌, ◌<◌, ◌≤◌, [], IfOk, IfSome, IsErrOf};
 ghost use Rattle.std.specs.Prelude.{IsNone, IsSome, OnErr, OnOk, None, Some, false, length, true};
 ghost use Rattle.std.specs.Prelude.{is_some};
+ghost use Rattle.std.specs.List.{AllByRecursion};
 ghost use Rattle.model_body.specs.Desks.{HasRoom, body_size, new_desk};
 ghost use Rattle.retry_core.specs.Retries.{next_view};
 ghost use Rattle.body_desk.specs.Bodies.{bodies_view, config_view};
@@ -11,7 +12,8 @@ ghost use Rattle.body_sending.specs.Holds.{MayNotTakeInHold, NotesInHold, TakesI
 ghost use Rattle.spool.specs.Spools.{numbered_from};
 ghost use Rattle.spool.specs.Settled.{IsSettled};
 ghost use Rattle.relay_keeper.specs.Fronts.{BeginWith, spool_waiting};
-ghost use Rattle.relay_keeper.specs.Kept.{Admits, IsFull, Puts, with_attempt, with_desk};
+ghost use Rattle.relay_keeper.specs.Kept.{Admits, AreFull, IsFull, Puts, PutsAll, with_attempt};
+ghost use Rattle.relay_keeper.specs.Kept.{with_desk};
 ghost use Rattle.relay_keeper.specs.Kept.{AreBodies, IsReport, kept_count, with_ended, with_received};
 
 use crate::counts::Counts;
@@ -26,6 +28,7 @@ use spool_device::Device;
 use std::alloc::{AllocError, Global};
 use std::collections::VecDeque;
 use std::marker::Model;
+use std::slice;
 
 /// What a body takes beside its bytes at a desk, in bytes.
 const OVERHEAD: usize = 96;
@@ -84,6 +87,19 @@ fn is_within(len: usize, config: BodyConfig) -> bool
     ensures above { result ≡ false → config.memory_bytes < len + 96 }
 {
     len + OVERHEAD <= config.memory_bytes
+}
+
+/// Whether each of these bodies is within the memory that all bodies may take.
+fn are_within(bodies: &[Vec<u8>], config: BodyConfig) -> bool
+    ensures { result ≡ true
+        → AllByRecursion (λ body. body_size body.items ≤ config.memory_bytes) bodies.now }
+{
+    for body in bodies {
+        if !is_within(body.len(), config) {
+            return false;
+        }
+    }
+    true
 }
 
 /// The number of the first body that has not ended, after so many more ended.
@@ -199,13 +215,62 @@ impl<D: Device> Keeping<D> {
         ensures failed { IsErrOf result KeepFault.Failed → self.new
             ≡ record self.old { spool = self.new.spool; has_failed = self.new.has_failed } }
     {
-        if self.has_failed {
-            return Err(KeepFault::Failed);
-        }
         if !is_within(body.len(), self.desk.config()) {
             return Err(KeepFault::Full);
         }
-        match put_into(self.alloc, &mut self.spool, body) {
+        self.put_bodies(slice::from_ref(body), spans)
+    }
+
+    /// Keeps bodies together in the spool, where there is one: all of them, or none. They have this
+    /// many spans, all in all, and are on the disk once this has answered, after one sync.
+    ///
+    /// # Errors
+    ///
+    /// `Full` where they have no room together, or there is no spool: nothing is changed then.
+    /// `Failed` where the spool failed, and until it was opened again: it may have some of them.
+    pub fn keep_together(&mut self, bodies: &[Vec<u8>], spans: u64) -> Result<(), KeepFault>
+        ensures spooled { OnOk result (self.old.is_spooled ≡ true) }
+        ensures put { OnOk result (D.is_known → PutsAll D.files D.moment D.left_at
+            (bodies_view bodies.now) self.old.spool self.new.spool) }
+        ensures put_only { OnOk result (self.new ≡ record self.old {
+          spool = self.new.spool;
+          next = self.new.next;
+          counts = with_received spans self.old.counts;
+        }) }
+        ensures within { OnOk result (AllByRecursion
+            (λ body. body_size body.items ≤ self.old.desk.config.memory_bytes) bodies.now) }
+        ensures full_same { IsErrOf result KeepFault.Full → self.new ≡ self.old }
+        ensures memory { IsErrOf result KeepFault.OutOfMemory → ⊥ }
+        ensures failed { IsErrOf result KeepFault.Failed → self.new
+            ≡ record self.old { spool = self.new.spool; has_failed = self.new.has_failed } }
+    {
+        if !self.is_spooled || !are_within(bodies, self.desk.config()) {
+            return Err(KeepFault::Full);
+        }
+        self.put_bodies(bodies, spans)
+    }
+
+    /// Puts bodies into the spool.
+    fn put_bodies(&mut self, bodies: &[Vec<u8>], spans: u64) -> Result<(), KeepFault>
+        requires { self.old.is_spooled ≡ true }
+        ensures put { OnOk result (D.is_known → PutsAll D.files D.moment D.left_at
+            (bodies_view bodies.now) self.old.spool self.new.spool) }
+        ensures put_only { OnOk result (self.new ≡ record self.old {
+          spool = self.new.spool;
+          next = self.new.next;
+          counts = with_received spans self.old.counts;
+        }) }
+        ensures full { IsErrOf result KeepFault.Full → D.is_known
+            → AreFull D.files (bodies_view bodies.now) self.old.spool }
+        ensures full_same { IsErrOf result KeepFault.Full → self.new ≡ self.old }
+        ensures memory { IsErrOf result KeepFault.OutOfMemory → ⊥ }
+        ensures failed { IsErrOf result KeepFault.Failed → self.new
+            ≡ record self.old { spool = self.new.spool; has_failed = self.new.has_failed } }
+    {
+        if self.has_failed {
+            return Err(KeepFault::Failed);
+        }
+        match put_into(self.alloc, &mut self.spool, bodies) {
             Ok(next) => {
                 self.next = next;
                 self.counts.receive(spans);

@@ -5,14 +5,13 @@ ghost use Rattle.body_desk.specs.Bodies.{bodies_view};
 ghost use Rattle.spool.specs.Spools.{numbered_from, waiting};
 ghost use Rattle.spool.specs.Settled.{IsSettled, device_of};
 ghost use Rattle.relay_keeper.specs.Fronts.{BeginWith, spool_waiting};
-ghost use Rattle.relay_keeper.specs.Kept.{AdmitsFirst, IsFull, Puts};
+ghost use Rattle.relay_keeper.specs.Kept.{AdmitsFirst, AreFull, PutsAll};
 
 use body_desk::{AdmitFault, BodyDesk};
 use relay_service::KeepFault;
 use spool::{Spool, SpoolError, WaitingBodies};
 use spool_device::Device;
 use std::alloc::Global;
-use std::slice;
 
 /// The number that the next body of a spool gets, or 0 where there is no spool.
 pub(crate) fn next_of<D: Device>(spool: &Option<Spool<D>>) -> u64 {
@@ -22,7 +21,7 @@ pub(crate) fn next_of<D: Device>(spool: &Option<Spool<D>>) -> u64 {
     }
 }
 
-/// Puts a body into a spool, alone: the number that the next one gets.
+/// Puts bodies into a spool, with one sync: the number that the next one gets.
 ///
 /// # Errors
 ///
@@ -30,20 +29,20 @@ pub(crate) fn next_of<D: Device>(spool: &Option<Spool<D>>) -> u64 {
 pub(crate) fn put_into<D: Device>(
     alloc: Global,
     spool: &mut Option<Spool<D>>,
-    body: &Vec<u8>,
+    bodies: &[Vec<u8>],
 ) -> Result<u64, KeepFault>
     requires { D.is_known → IfSome spool.old (IsSettled D.files D.moment D.left_at) }
     ensures put { OnOk result (D.is_known
-        → Puts D.files D.moment D.left_at body.now.items spool.old spool.new) }
+        → PutsAll D.files D.moment D.left_at (bodies_view bodies.now) spool.old spool.new) }
     ensures there { OnOk result (IsSome spool.old) }
     ensures full { IsErrOf result KeepFault.Full → D.is_known
-        → IsFull D.files body.now.items spool.old }
+        → AreFull D.files (bodies_view bodies.now) spool.old }
     ensures refused { IsErrOf result KeepFault.Full → spool.new ≡ spool.old }
 {
     let Some(spool) = spool else {
         return Err(KeepFault::Failed);
     };
-    match spool.put(alloc, slice::from_ref(body)) {
+    match spool.put(alloc, bodies) {
         Ok(_number) => Ok(spool.next_number()),
         Err(SpoolError::Full) => Err(KeepFault::Full),
         Err(SpoolError::Memory) => Err(KeepFault::Failed),

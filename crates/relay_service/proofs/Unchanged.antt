@@ -19,6 +19,7 @@ module _ {K : Type 0} (keeps : Keeping K) (lacks_room : Lacking K) (fails : Keep
   -- of a content
   content_same : (content : List ℕ) (room : ℕ)
       → ReceivesContent keeps lacks_room fails old content room outcome new → new ≡ old
+  content_same content room (ReceivesContent.recalled r k o) = cc
   content_same content room (ReceivesContent.no_room a o same) = same
   content_same content room (ReceivesContent.unread a u o same) = same
   content_same content room (ReceivesContent.no_memory a u o same) = same

@@ -31,10 +31,12 @@ module _ {K : Type 0} (keeps : Keeping K) (lacks_room : Lacking K) (fails : Keep
     no_memory : outcome ≡ outcomes.Denied denials.OutOfMemory → new ≡ old → Keeps body outcome new
     failed : fails old body new → outcome ≡ outcomes.Failed → Keeps body outcome new
 
-  -- What becomes of a content, where this many bytes may still be pending: reading it would take
-  -- more, it isn't read, or it is a body that is to be kept.
+  -- What becomes of a content, where this many bytes may still be pending: it was kept together
+  -- with others, reading it would take more, it isn't read, or it is a body that is to be kept.
   pub data ReceivesContent (content : List ℕ) (room : ℕ) (outcome : Outcome) (new : K)
       : Type 0 where
+    recalled : IsReadable content → keeps old content new → outcome ≡ outcomes.Kept
+        → ReceivesContent content room outcome new
     no_room : is_above content room ≡ true → outcome ≡ outcomes.Denied denials.NoRoom → new ≡ old
         → ReceivesContent content room outcome new
     unread : is_above content room ≡ false → IsUnread content reasons.Fault

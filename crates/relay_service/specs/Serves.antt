@@ -49,6 +49,14 @@ pub record HasAnswered {K : Type 0} (old new : RelayService K) (status : ℕ) : 
   pub hosts : hosts_of new ≡ hosts_of old
   pub max_body : max_body_of new ≡ max_body_of old
 
+-- Nothing was answered: only what keeps the bodies has changed, which has collected some, or kept
+-- those that it had collected.
+pub record IsBeside {K : Type 0} (old new : RelayService K) : Type 0 where
+  pub tallies : tally_of new ≡ tally_of old
+  pub hosts : hosts_of new ≡ hosts_of old
+  pub max_body : max_body_of new ≡ max_body_of old
+  pub failed : failed_of new ≡ failed_of old
+
 -- what keeps the bodies is as it was, and has failed to if it had before
 abbrev pub IsAsBefore : {K : Type 0} → RelayService K → RelayService K → Type 0
 IsAsBefore old new = (keeper_of new ≡ keeper_of old) × (failed_of new ≡ failed_of old)

@@ -1,6 +1,7 @@
 //! What keeps received bodies.
 
-ghost use Rattle.std.specs.Prelude.{◌≡◌, ◌≤◌, ℕ, IfOk, IsErrOf, List, OnOk, length, map, ⊤};
+ghost use Rattle.std.specs.Prelude.{◌≡◌, ◌≤◌, ℕ, IfOk, IsErrOf, IsFalse, IsTrue, List, OnOk};
+ghost use Rattle.std.specs.Prelude.{length, map, ⊤};
 ghost use Rattle.model_body.specs.Names.{IsReadable, spans_in};
 ghost use Rattle.relay_service.specs.Lost.{lost_view};
 
@@ -54,6 +55,34 @@ pub trait BodyKeeper {
         ensures full_same { IsErrOf result KeepFault.Full → self.new ≡ self.old }
         ensures memory_same { IsErrOf result KeepFault.OutOfMemory → self.new ≡ self.old }
         ensures failed { IsErrOf result KeepFault.Failed → fails self.old body.items self.new };
+
+    /// Whether it keeps bodies together, as with one write to a disk: it is then handed those of a
+    /// round by `collect`, and `keep_collected` keeps them before any of them is recalled.
+    fn collects(&self) -> bool {
+        false
+    }
+
+    /// Takes a body, which has this many spans, to keep it together with others, or leaves it.
+    fn collect(&mut self, body: Vec<u8>, spans: usize)
+        requires readable { IsReadable body.items }
+        requires spans { spans ≡ length (spans_in body.items) }
+    {
+        let _ = (body, spans);
+    }
+
+    /// Keeps the bodies that it has collected since the last call, all of them or none.
+    fn keep_collected(&mut self) {}
+
+    /// Whether a body of these bytes was kept by the last `keep_collected`, and wasn't recalled
+    /// since as often as it was kept.
+    fn recall(&mut self, content: &[u8]) -> bool
+        ensures readable { IsTrue result → IsReadable content.now }
+        ensures kept { IsTrue result → keeps self.old content.now self.new }
+        ensures same { IsFalse result → self.new ≡ self.old }
+    {
+        let _ = content;
+        false
+    }
 
     /// What became of what it kept.
     fn report(&self) -> Report

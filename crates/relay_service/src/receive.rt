@@ -82,13 +82,25 @@ fn keep_copy<K: BodyKeeper>(alloc: Global, keeper: &mut K, content: &[u8], spans
     }
 }
 
-/// Keeps the content of a post, where so many bytes may still be pending.
+/// Keeps the content of a post, unless it was kept together with others, where so many bytes may
+/// still be pending.
 fn keep_content<K: BodyKeeper>(
     alloc: Global,
     keeper: &mut K,
     content: &[u8],
     room: usize,
 ) -> Outcome
+    ensures { ReceivesContent K.keeps K.lacks_room K.fails keeper.old content.now room result
+        keeper.new }
+{
+    if keeper.recall(content) {
+        return Outcome::Kept;
+    }
+    keep_alone(alloc, keeper, content, room)
+}
+
+/// Keeps the content of a post, where so many bytes may still be pending.
+fn keep_alone<K: BodyKeeper>(alloc: Global, keeper: &mut K, content: &[u8], room: usize) -> Outcome
     ensures { ReceivesContent K.keeps K.lacks_room K.fails keeper.old content.now room result
         keeper.new }
 {
@@ -125,6 +137,44 @@ fn keep_post<K: BodyKeeper>(
         }
         Err(Undecoded::Denied(denial)) => Outcome::Denied(denial),
         Err(Undecoded::OutOfMemory) => Outcome::Denied(Denial::OutOfMemory),
+    }
+}
+
+/// Collects a copy of a content that has so many spans.
+fn collect_copy<K: BodyKeeper>(alloc: Global, keeper: &mut K, content: &[u8], spans: usize)
+    requires readable { IsReadable content.now }
+    requires spans { spans ≡ length (spans_in content.now) }
+{
+    if let Ok(body) = copy_of(alloc, content) {
+        keeper.collect(body, spans);
+    }
+}
+
+/// Collects the content of a post, if it is read, where so many bytes may still be pending.
+fn collect_content<K: BodyKeeper>(alloc: Global, keeper: &mut K, content: &[u8], room: usize) {
+    let has_room = !is_above(content, room);
+    if !has_room {
+        return;
+    }
+    if let Ok(spans) = count_spans(alloc, content) {
+        collect_copy(alloc, keeper, content, spans);
+    }
+}
+
+/// Collects what a request carries, if it is a post of spans, whose content may have at most `most`
+/// bytes, where so many bytes may still be pending. What isn't collected is kept by itself, or
+/// refused, once it is received.
+pub(crate) fn collect<K: BodyKeeper>(
+    alloc: Global,
+    keeper: &mut K,
+    request: &Request<Bytes>,
+    most: usize,
+    room: usize,
+) {
+    match content_in(alloc, request, most) {
+        Ok(None) => collect_content(alloc, keeper, request.body().as_slice(), room),
+        Ok(Some(content)) => collect_content(alloc, keeper, content.as_slice(), room),
+        Err(_) => {}
     }
 }
 

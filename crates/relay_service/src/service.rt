@@ -9,7 +9,7 @@ ghost use Rattle.relay_service.specs.Serves.{Answers, HasAnswered, failed_of, ho
 ghost use Rattle.relay_service.specs.Serves.{max_body_of, tally_of};
 
 use crate::keeper::BodyKeeper;
-use crate::receive::{either, is_failure, receive};
+use crate::receive::{collect, either, is_failure, receive};
 use crate::show::Viewer;
 use bytes::Bytes;
 use http::Request;
@@ -17,7 +17,7 @@ use http_connection::reply::{
     Denial, Hosts, Tallies, denial_by, denial_format, fill_denial, fill_options, head_denial,
     is_export_path, path_of,
 };
-use http_connection::{Pieces, Refusal, Service};
+use http_connection::{Gathers, Pieces, Refusal, Service};
 use http_server::Response;
 use std::alloc::{AllocError, Global};
 
@@ -42,6 +42,9 @@ impl Pieces for NoPieces {
 /// was, unless the keeper failed: then `/healthz` is 503 from then on. Each answer is counted by its
 /// status. A call fails only where memory for the answer is refused: nothing was kept then, and the
 /// connection ends.
+///
+/// The bodies of the requests that it is shown, as it `Gathers`, are kept together, where its keeper
+/// does so. A body that was kept so is recalled by its bytes when its request is answered.
 #[derive(Drop)]
 pub struct RelayService<K> {
     alloc: Global,
@@ -235,5 +238,23 @@ impl<K: BodyKeeper> Service for RelayService<K> {
         response: &mut Response,
     ) -> Result<(), AllocError> {
         self.deny(response, denial_by(refusal), head)
+    }
+}
+
+impl<K: BodyKeeper> Gathers for RelayService<K> {
+    ghost use Rattle.relay_service.specs.Serves.{IsBeside};
+
+    ghost gathers = { λ old _ new. IsBeside old new };
+
+    ghost settles = { λ old new. IsBeside old new };
+
+    fn gather(&mut self, request: &Request<Bytes>, room: usize) {
+        if self.keeper.collects() {
+            collect(self.alloc, &mut self.keeper, request, self.max_body, room);
+        }
+    }
+
+    fn settle(&mut self) {
+        self.keeper.keep_collected();
     }
 }

@@ -7,3 +7,4 @@ mod many;
 mod memory;
 mod parts;
 mod spooled;
+mod together;

@@ -11,6 +11,8 @@ pub(crate) struct LightDevice {
     alloc: Global,
     files: Vec<MemoryFile>,
     calls_left: u64,
+    /// How often it was synced.
+    pub(crate) syncs: u64,
 }
 
 impl LightDevice {
@@ -20,6 +22,7 @@ impl LightDevice {
             alloc,
             files,
             calls_left: calls,
+            syncs: 0,
         }
     }
 
@@ -29,6 +32,7 @@ impl LightDevice {
             alloc: _,
             files,
             calls_left: _,
+            syncs: _,
         } = self;
         files
     }
@@ -115,6 +119,7 @@ impl Device for LightDevice {
     }
 
     fn sync(&mut self) -> Result<(), DeviceError> {
+        self.syncs = self.syncs.saturating_add(1);
         self.begin()
     }
 }

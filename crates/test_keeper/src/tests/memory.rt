@@ -151,7 +151,7 @@ fn a_keeper_shares_what_is_kept(rt: HostRuntime) {
     let alloc = rt.alloc();
     let shared = Arc::new(alloc, Mutex::new(empty(alloc, 1_000))).expect(&rt, "memory");
     let other = Arc::try_clone(&shared).expect(&rt, "memory");
-    let mut keeper = SharedKeeper::new(&rt, other);
+    let mut keeper = SharedKeeper::new(&rt, alloc, other, false);
     let mut sink = Digits::new();
     let kept = keep(&rt, alloc, &mut shared.lock(&rt), &FIRST, 1);
     assert_equal(&rt, kept, Ok(()));

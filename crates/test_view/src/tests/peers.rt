@@ -3,7 +3,7 @@
 use crate::tests::equal::assert_equal;
 use bytes::{BufMut, Bytes};
 use http::Request;
-use http_connection::{Pieces, Refusal, Service};
+use http_connection::{Gathers, Pieces, Refusal, Service};
 use http_peers::{Peers, Settings, listen};
 use http_server::Response;
 use std::alloc::AllocError;
@@ -200,4 +200,114 @@ fn no_file_can_be_watched(rt: HostRuntime) {
     let (peers, _) = server(rt).expect(&rt, "a server");
     let nothing = File::open(&rt, "/dev/null").expect(&rt, "a file");
     assert_equal(&rt, peers.watch(nothing.as_raw_fd()).is_err(), true);
+}
+
+/// Answers each request by the same text, and notes whether each was shown before, and settled.
+#[derive(Drop)]
+struct Shown {
+    /// How many requests it was shown.
+    shown: usize,
+    /// How many of these it has settled.
+    settled: usize,
+    /// How many requests it has answered.
+    answered: usize,
+    /// Whether it has answered one before it settled it.
+    is_early: bool,
+}
+
+impl Service for Shown {
+    ghost use Rattle.std.specs.Prelude.{⊤};
+
+    type Pieces = NoPieces;
+
+    ghost answers = { λ _ _ _. ⊤ };
+
+    fn admit(
+        &mut self,
+        _: &Request<Bytes>,
+        _: Option<u64>,
+        _: usize,
+        _: &mut Response,
+    ) -> Result<bool, AllocError> {
+        Ok(true)
+    }
+
+    fn call(
+        &mut self,
+        request: &Request<Bytes>,
+        room: usize,
+        response: &mut Response,
+    ) -> Result<Option<NoPieces>, AllocError> {
+        let rest = Same.call(request, room, response)?;
+        self.is_early = self.is_early || self.settled <= self.answered;
+        self.answered = self.answered.saturating_add(1);
+        Ok(rest)
+    }
+
+    fn refuse(
+        &mut self,
+        _: Refusal,
+        _: Option<&Request<Bytes>>,
+        _: &mut Response,
+    ) -> Result<(), AllocError> {
+        Ok(())
+    }
+}
+
+impl Gathers for Shown {
+    ghost use Rattle.std.specs.Prelude.{⊤};
+
+    ghost gathers = { λ _ _ _. ⊤ };
+
+    ghost settles = { λ _ _. ⊤ };
+
+    fn gather(&mut self, _: &Request<Bytes>, _: usize) {
+        self.shown = self.shown.saturating_add(1);
+    }
+
+    fn settle(&mut self) {
+        self.settled = self.shown;
+    }
+}
+
+/// Sends a request.
+fn ask(rt: &impl Abort, client: &mut TcpStream) {
+    client
+        .write_all(b"GET / HTTP/1.1\r\nHost: a\r\n\r\n")
+        .expect(rt, "a written request");
+}
+
+/// Whether a client gets an answer with the status 200.
+fn is_answered(rt: &impl Abort, client: &mut TcpStream) -> bool {
+    let mut came = [0; 12];
+    client.read_exact(&mut came).expect(rt, "an answer");
+    came.starts_with(b"HTTP/1.1 200")
+}
+
+/// In a round that is settled once, each request is answered after it was shown, and a peer that is
+/// silent holds up no other one.
+#[test]
+fn requests_are_shown_before_they_are_answered(rt: HostRuntime) {
+    let (mut peers, address) = server(rt).expect(&rt, "a server");
+    let _silent = TcpStream::connect(&rt, address).expect(&rt, "a connection");
+    let mut first = TcpStream::connect(&rt, address).expect(&rt, "a connection");
+    let mut second = TcpStream::connect(&rt, address).expect(&rt, "a connection");
+    ask(&rt, &mut first);
+    ask(&rt, &mut second);
+    let mut service = Shown {
+        shown: 0,
+        settled: 0,
+        answered: 0,
+        is_early: false,
+    };
+    for _round in 0..ROUNDS {
+        if service.answered < 2 {
+            let round = peers.round_together(&mut service);
+            assert_equal(&rt, round.is_ok(), true);
+        }
+    }
+    assert_equal(&rt, (service.shown, service.answered), (2, 2));
+    assert_equal(&rt, service.is_early, false);
+    assert_equal(&rt, is_answered(&rt, &mut first), true);
+    assert_equal(&rt, is_answered(&rt, &mut second), true);
 }

@@ -1,24 +1,15 @@
-use Rattle.std.proofs.Common.{◌∙◌, refl, sym}
+use Rattle.std.proofs.Common.{refl, subst}
 use Rattle.relay_service.specs.Receives.{ReceivesContent}
 use Rattle.relay_service.proofs.receive.keep_content.Goals as goal
 
-pub returns-then-is_above : goal.returns-then-is_above
-returns-then-is_above g c =
-    ReceivesContent.no_room (sym c.is_above.ensures ∙ c.if-is_above.true) refl refl
+pub returns-then-recall : goal.returns-then-recall
+returns-then-recall g c =
+    ReceivesContent.recalled (c.recall.ensures.readable c.if-recall.true)
+    (c.recall.ensures.kept c.if-recall.true) refl
 
-pub returns-in-Ok : goal.returns-in-Ok
-returns-in-Ok g c =
-    ReceivesContent.read (sym c.is_above.ensures ∙ c.if-is_above.false) c.in-Ok.ensures.readable
-    c.keep_copy.ensures
-
-pub returns-in-Err-Fault : goal.returns-in-Err-Fault
-returns-in-Err-Fault g c =
-    let unread = c.in-Err-Fault.ensures.unread in
-    ReceivesContent.unread (sym c.is_above.ensures ∙ c.if-is_above.false)
-    (rw c.in-Err-Fault.field-0-is at unread) refl refl
-
-pub returns-in-Err-OutOfMemory : goal.returns-in-Err-OutOfMemory
-returns-in-Err-OutOfMemory g c =
-    let unread = c.in-Err-OutOfMemory.ensures.unread in
-    ReceivesContent.no_memory (sym c.is_above.ensures ∙ c.if-is_above.false)
-    (rw c.in-Err-OutOfMemory.field-0-is at unread) refl refl
+pub returns : goal.returns
+returns g c =
+    subst (λ keeper. ReceivesContent g.K.BodyKeeper.keeps g.K.BodyKeeper.lacks_room
+    g.K.BodyKeeper.fails keeper c.args.content.now c.args.room c.keep_alone.result
+    c.keep_alone.new.keeper)
+    (c.recall.ensures.same c.if-recall.false) c.keep_alone.ensures
