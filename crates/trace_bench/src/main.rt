@@ -8,8 +8,7 @@
 //! is done with whole batches, what spans take that find a queue full, the processor time of an
 //! idle worker, a ring of items beside a deque, the calls that set an attribute, the field of a
 //! context, and a request with a span beside one without. It prints too how long an export of a
-//! small body takes over loopback, and how many spans are delivered in a second by a service that
-//! posts them there: over a new connection each, and over a kept one.
+//! small body takes over loopback, over a new connection each, and over a kept one.
 //!
 //! With a number of rounds as its argument it prints of the bodies how long a span takes, in
 //! nanoseconds: to be grouped, to be encoded, as a part of a body that is copied, and to be read;
@@ -28,7 +27,6 @@ mod requests;
 mod rings;
 mod tables;
 mod threads;
-mod traced;
 
 use anyhow::Result;
 use std::env;

@@ -266,7 +266,6 @@ where
         }
         for attributes in [0usize, 5] {
             self.print_attributes(attributes)?;
-            self.print_traced(attributes)?;
         }
         self.print_calls()?;
         self.print_requests()?;

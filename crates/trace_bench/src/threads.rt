@@ -48,13 +48,6 @@ impl Counts {
         }
     }
 
-    /// How many were handed or dropped, or are left.
-    pub fn named(self) -> u64 {
-        self.handed
-            .saturating_add(self.dropped)
-            .saturating_add(self.left)
-    }
-
     /// By what a processor counted.
     fn new(totals: Totals) -> Counts {
         let drops = totals.dropped;

@@ -1,0 +1,101 @@
+//! The spans that a thread starts and ends.
+use otlp_span::Kind;
+use std::alloc::Global;
+use thread_tracer::ThreadTrace;
+
+/// Attributes that a span may have.
+const ATTRIBUTES: [(&str, &str); 5] = [
+    ("http.request.method", "GET"),
+    ("http.route", "/cart/{id}"),
+    ("server.address", "shop.example"),
+    ("user_agent.original", "curl/8.5.0"),
+    ("network.protocol.version", "1.1"),
+];
+
+/// How many spans a thread ends before it looks whether its time is up.
+const BURST: u64 = 64;
+
+/// What a thread does.
+#[derive(Clone, Copy)]
+pub struct Load {
+    /// The memory.
+    pub alloc: Global,
+    /// How many attributes each span has, 5 at most.
+    pub attributes: usize,
+    /// For how long it ends spans, in nanoseconds.
+    pub nanos: u64,
+    /// Whether each end is timed.
+    pub is_timed: bool,
+}
+
+/// What threads came to.
+#[derive(Drop)]
+pub struct Ran {
+    /// How many spans ended.
+    pub spans: u64,
+    /// How long that took its threads, in nanoseconds.
+    pub nanos: u64,
+    /// How long each end took, in nanoseconds, where ends are timed.
+    pub ends: Vec<u64>,
+}
+
+impl Ran {
+    /// No span.
+    pub fn new(alloc: Global) -> Ran {
+        Ran {
+            spans: 0,
+            nanos: 0,
+            ends: Vec::new(alloc),
+        }
+    }
+
+    /// Adds what another thread came to. Ends for which there is no memory are left out.
+    pub fn add(&mut self, other: &Ran) {
+        self.spans = self.spans.saturating_add(other.spans);
+        self.nanos = self.nanos.saturating_add(other.nanos);
+        let _ = self.ends.extend_from_slice(&other.ends);
+    }
+}
+
+/// Starts and ends so many spans.
+pub fn end_spans<T: ThreadTrace>(trace: &mut T, attributes: usize, count: u64) {
+    for _span in 0..count {
+        let mut span = trace.start("GET /cart", Kind::Server);
+        for (key, text) in ATTRIBUTES.iter().take(attributes) {
+            span.set(key, *text);
+        }
+        trace.end(span);
+    }
+}
+
+/// The same, where each end is timed. An end for which there is no memory is left out.
+fn time_ends<T: ThreadTrace>(trace: &mut T, attributes: usize, count: u64, ends: &mut Vec<u64>) {
+    for _span in 0..count {
+        let mut span = trace.start("GET /cart", Kind::Server);
+        for (key, text) in ATTRIBUTES.iter().take(attributes) {
+            span.set(key, *text);
+        }
+        let before = trace.now();
+        trace.end(span);
+        let _ = ends.push(trace.now().saturating_sub(before));
+    }
+}
+
+/// Starts and ends spans until the time is up.
+pub fn run_load<T: ThreadTrace>(trace: &mut T, load: Load) -> Ran {
+    let mut ran = Ran::new(load.alloc);
+    let start = trace.now();
+    for _burst in 0..u64::MAX {
+        if load.is_timed {
+            time_ends(trace, load.attributes, BURST, &mut ran.ends);
+        } else {
+            end_spans(trace, load.attributes, BURST);
+        }
+        ran.spans = ran.spans.saturating_add(BURST);
+        ran.nanos = trace.now().saturating_sub(start);
+        if ran.nanos >= load.nanos {
+            break;
+        }
+    }
+    ran
+}
