@@ -1,0 +1,100 @@
+//! What the arguments mean for the parts of the program.
+ghost use Rattle.std.specs.Prelude.{◌≡◌, ◌≤◌, ◌*◌, ◌-◌, min};
+
+use crate::args::RelayArgs;
+use body_desk::BodyConfig;
+use body_sending::SendConfig;
+use http_peers::Settings;
+use retry_core::RetryConfig;
+
+/// The bytes of a MiB.
+const MIB: u64 = 1_048_576;
+
+/// How long a connection may last without a request, in milliseconds: exporters keep theirs for
+/// minutes. (profile)
+const IDLE_MS: u64 = 300_000;
+
+/// How long a request may take to arrive, and how long a client may take nothing of its answer, in
+/// milliseconds. (profile)
+const REQUEST_MS: u64 = 30_000;
+
+/// The least wait between two attempts, in milliseconds: a collector that asks for none isn't asked
+/// without a pause. (profile)
+const LEAST_MS: u32 = 100;
+
+/// How many bytes a body takes of memory beside its own.
+const OVERHEAD: u64 = 96;
+
+/// How many bytes a body may have, and what it means: a larger one would never have room.
+pub(crate) fn max_body_of(args: &RelayArgs) -> usize
+    ensures { args.now.memory_mb ≤ 1_048_576
+        → result ≡ min args.now.max_body (args.now.memory_mb * 1_048_576 - 96) }
+{
+    let memory = args.memory_mb.saturating_mul(MIB);
+    let most = args.max_body.min(memory.saturating_sub(OVERHEAD));
+    usize::try_from(most).unwrap_or(usize::MAX)
+}
+
+/// How peers are served.
+pub(crate) fn settings_of(args: &RelayArgs) -> Settings
+    ensures idle { result.times.idle_ms ≡ 300_000 }
+    ensures request { result.times.request_ms ≡ 30_000 }
+    ensures answer { result.times.answer_ms ≡ result.times.request_ms }
+    ensures most { result.most ≡ 8_192 }
+    ensures max_body { args.now.memory_mb ≤ 1_048_576 → result.limits.max_body
+        ≡ min args.now.max_body (args.now.memory_mb * 1_048_576 - 96) }
+    ensures pending { args.now.pending_mb ≤ 1_048_576
+        → result.pending ≡ args.now.pending_mb * 1_048_576 }
+{
+    Settings::new(
+        IDLE_MS,
+        REQUEST_MS,
+        max_body_of(args),
+        args.pending_mb.saturating_mul(MIB),
+    )
+}
+
+/// How much is kept in memory, and how large requests to the collector are.
+pub(crate) fn config_of(args: &RelayArgs) -> BodyConfig
+    ensures batch { result.batch_bytes ≡ args.now.batch_bytes }
+    ensures memory { args.now.memory_mb ≤ 1_048_576
+        → result.memory_bytes ≡ args.now.memory_mb * 1_048_576 }
+{
+    let memory = args.memory_mb.saturating_mul(MIB);
+    BodyConfig {
+        batch_bytes: usize::try_from(args.batch_bytes).unwrap_or(usize::MAX),
+        memory_bytes: usize::try_from(memory).unwrap_or(usize::MAX),
+    }
+}
+
+/// How many bytes the files of the spool may have.
+pub(crate) fn spool_limit_of(args: &RelayArgs) -> u64
+    ensures { args.now.spool_mb ≤ 1_048_576 → result ≡ args.now.spool_mb * 1_048_576 }
+{
+    args.spool_mb.saturating_mul(MIB)
+}
+
+/// For how many milliseconds it hands on once it is stopped.
+pub(crate) fn stop_ms_of(args: &RelayArgs) -> u64
+    ensures { args.now.stop_seconds ≤ 3_600 → result ≡ args.now.stop_seconds * 1_000 }
+{
+    args.stop_seconds.saturating_mul(1_000)
+}
+
+/// How long the waits between attempts are, and how often a batch is sent.
+pub(crate) fn sends_of(args: &RelayArgs) -> SendConfig {
+    let retry = RetryConfig::default();
+    SendConfig {
+        retry: retry.with_least_wait(LEAST_MS).unwrap_or(retry),
+        attempts: attempts_of(args),
+    }
+}
+
+/// How often a batch is sent at most, if there is a last attempt.
+fn attempts_of(args: &RelayArgs) -> Option<u32> {
+    match u32::try_from(args.attempts) {
+        Ok(0) => None,
+        Ok(attempts) => Some(attempts),
+        Err(_) => Some(u32::MAX),
+    }
+}

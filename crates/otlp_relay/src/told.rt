@@ -1,0 +1,118 @@
+//! What the thread that sends reports.
+
+use crate::keeping::say_damaged;
+use http_exporter::Failure;
+use http_peers::{Complaint, Line};
+use std::io::Write;
+
+/// What the thread that sends reports, on lines of its own.
+#[derive(Drop)]
+pub(crate) struct Told<L> {
+    log: L,
+    // Of attempts after which a batch is sent again, or is lost.
+    failed: Complaint,
+    failures: u64,
+    // Of partial successes.
+    partial: Complaint,
+    partials: u64,
+    // Of failures of the spool.
+    spool: Complaint,
+    spool_failures: u64,
+    // Whether the last one has a line.
+    is_spool_told: bool,
+    // Of bodies that wait in the spool and have no room in memory.
+    large: Complaint,
+    large_bodies: u64,
+}
+
+impl<L> Told<L> {
+    /// Nothing was reported. It writes to this writer.
+    pub(crate) fn new(log: L) -> Told<L> {
+        Told {
+            log,
+            failed: Complaint::new(),
+            failures: 0,
+            partial: Complaint::new(),
+            partials: 0,
+            spool: Complaint::new(),
+            spool_failures: 0,
+            is_spool_told: false,
+            large: Complaint::new(),
+            large_bodies: 0,
+        }
+    }
+}
+
+/// Writes that this happened, with the count since the last line where it isn't the first. A line
+/// that can't be written is lost.
+fn write_failure<L: Write>(log: &mut L, what: &str, why: &Failure, line: Line) {
+    let _ = match line {
+        Line::First => writeln!(log, "otlp-relay: {what}: {why}"),
+        Line::Since(count) => {
+            writeln!(
+                log,
+                "otlp-relay: {what}: {why}; {count} since the last line"
+            )
+        }
+    };
+}
+
+impl<L: Write> Told<L> {
+    /// A batch wasn't taken at this moment, in milliseconds.
+    pub(crate) fn failed(&mut self, why: &Failure, now_ms: u64) {
+        self.failures = self.failures.saturating_add(1);
+        let line = self.failed.line(self.failures, now_ms);
+        self.failed = self.failed.after(line, self.failures, now_ms);
+        if let Some(line) = line {
+            write_failure(&mut self.log, "a batch wasn't taken", why, line);
+        }
+    }
+
+    /// A batch was taken but for some spans, at this moment, in milliseconds.
+    pub(crate) fn partial(&mut self, why: &Failure, now_ms: u64) {
+        self.partials = self.partials.saturating_add(1);
+        let line = self.partial.line(self.partials, now_ms);
+        self.partial = self.partial.after(line, self.partials, now_ms);
+        if let Some(line) = line {
+            write_failure(&mut self.log, "a batch was taken in part", why, line);
+        }
+    }
+
+    /// The spool has failed at this moment, in milliseconds.
+    pub(crate) fn spool_failed(&mut self, now_ms: u64) {
+        self.spool_failures = self.spool_failures.saturating_add(1);
+        let line = self.spool.line(self.spool_failures, now_ms);
+        self.spool = self.spool.after(line, self.spool_failures, now_ms);
+        self.is_spool_told = line.is_some();
+        if self.is_spool_told {
+            let _ = writeln!(
+                self.log,
+                "otlp-relay: the spool failed: its folder can't be read or written, or the disk is \
+                full; posts are answered 503, and it is opened again each second"
+            );
+        }
+    }
+
+    /// The next body that waits in the spool had no room in memory at this moment, in milliseconds.
+    pub(crate) fn large_body(&mut self, now_ms: u64) {
+        self.large_bodies = self.large_bodies.saturating_add(1);
+        let line = self.large.line(self.large_bodies, now_ms);
+        self.large = self.large.after(line, self.large_bodies, now_ms);
+        if line.is_some() {
+            let _ = writeln!(
+                self.log,
+                "otlp-relay: a body that waits in the spool is larger than --memory-mb, so nothing is \
+                sent; start with a larger one"
+            );
+        }
+    }
+
+    /// The spool is back, but for so many bytes that can't be read.
+    pub(crate) fn spool_back(&mut self, damaged_bytes: u64) {
+        if self.is_spool_told {
+            let _ = writeln!(self.log, "otlp-relay: the spool is back");
+            say_damaged(&mut self.log, damaged_bytes);
+        }
+        self.is_spool_told = false;
+    }
+}
