@@ -10,16 +10,15 @@ help: ## List the targets
 run: ## Build two programs without their proofs, and show a trace; PORT=4318 is the port (one and a half to two minutes)
 	@tools/run-first $(PORT)
 
-tour: ## Build six programs without their proofs and run them, each with a word on what it shows
+tour: ## Build seven programs without their proofs and run them, each with a word on what it shows
 	tools/tour
 
-quick: docs ## The documents, and tests and programs before their proofs (some minutes)
+quick: docs ## The documents, and the tests and programs without their proofs (half an hour or more)
 	tools/quick
 
 # The documents, the tools' own tests, every proof, wrong bodies (those that this commit chooses),
-# tests, programs, stored runs, hostile bodies, and what must not compile. rt ci keeps on this machine
-# what passed, and later proves only what changed and what is above it; rt ci --anew proves all.
-test: docs ## The gate: every proof, wrong bodies, tests and runs (from nothing an hour or more on four processors)
+# tests, programs, stored runs, hostile bodies, and what must not compile.
+test: docs ## The gate: every proof, wrong bodies, tests and runs (from nothing an hour or two on four processors)
 	tools/lib-test
 	tools/run-runs
 	rt ci
@@ -31,6 +30,7 @@ test: docs ## The gate: every proof, wrong bodies, tests and runs (from nothing 
 	tools/export-runs
 	tools/shop-runs
 	tools/view-runs
+	tools/relay-runs
 	tools/view-bounds
 	tools/hostile-bodies
 	tools/wont-compile
