@@ -2,4 +2,3 @@
 pub mod Senders
 pub mod Views
 pub mod Steps
-pub mod Holds

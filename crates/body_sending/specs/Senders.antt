@@ -1,6 +1,6 @@
 -- A sender of bodies, and what follows from the attempts of a batch. (OTLP Specification, OTLP/HTTP
 -- Response, OTLP/HTTP Throttling)
-use Rattle.std.specs.Prelude.{◌≡◌, ◌≢◌, ℕ, ◌-◌, ◌^◌, ◌≤◌, nat_le, min, Bool, true, false}
+use Rattle.std.specs.Prelude.{◌≡◌, ◌≢◌, ℕ, ◌-◌, ◌^◌, ◌≤◌, nat_le, nat_lt, min, Bool, true, false}
 use Rattle.std.specs.Prelude.{◌||◌, if◌then◌else◌, List, [], Option, None, Some}
 use Rattle.model_desk.specs.Retries.{Fate, Next, Outcome, fate_of, next_of, give_up, attempts}
 use Rattle.model_desk.specs.Waits.{RetryConfig, next_after}
@@ -64,6 +64,12 @@ abbrev pub is_pending : Stage → Bool
 is_pending (to_judge outcome) = true
 is_pending _ = false
 
+-- The moment before which a batch is not sent again, where it has not come. (OTLP Specification,
+-- OTLP/HTTP Throttling)
+abbrev pub early_at : ℕ → Stage → Option ℕ
+early_at now (to_retry moment) = if nat_lt now moment then Some moment else None
+early_at now _ = None
+
 -- How far it is once this follows. (OTLP Specification, OTLP/HTTP Throttling)
 abbrev pub stage_by : Next → Stage
 stage_by (Next.again moment) = to_retry moment
@@ -82,6 +88,11 @@ pub record Sender : Type 0 where
 abbrev pub new_sender : SendConfig → Sender
 new_sender config =
     record { config = config; body = []; number = 0; attempts = 0; stage = no_batch }
+
+-- One that has no batch in hand any more. (profile)
+abbrev pub forgotten : Sender → Sender
+forgotten sender =
+    if has_batch sender.stage then record sender { body = []; stage = no_batch } else sender
 
 -- A batch whose outcome is to be judged had an attempt, and without a batch there are no bytes.
 pub record AreSound (stage : Stage) (made : ℕ) (body : List ℕ) : Type 0 where

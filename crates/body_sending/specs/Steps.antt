@@ -11,7 +11,6 @@ use Rattle.body_desk.specs.Bodies.{MayTake}
 use Rattle.span_exporter.specs.Handed.{Handed, Gains, handing}
 use Rattle.body_sending.specs.Senders.{Sender, to_send, to_judge}
 use Rattle.body_sending.specs.Senders.{next_by, stage_by, capped_32, capped_64, GoesOn}
-use Rattle.body_sending.specs.declared.shared.Tried.TheVariants as tried
 
 -- whether the next batch is the last one, which is sent again
 abbrev pub is_again : Turn → Bool

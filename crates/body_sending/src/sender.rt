@@ -4,8 +4,7 @@ ghost use Rattle.retry_core.specs.Retries.{next_view, outcome_view};
 ghost use Rattle.body_desk.specs.Bodies.{MayNotTake, bodies_view};
 ghost use Rattle.body_names.specs.Named.{Gains};
 ghost use Rattle.body_sending.specs.Senders.{has_batch, is_pending, new_sender, no_batch, to_send};
-ghost use Rattle.body_sending.specs.Senders.{capped_64, names_after};
-ghost use Rattle.body_sending.specs.Holds.{early_at};
+ghost use Rattle.body_sending.specs.Senders.{capped_64, early_at, forgotten, names_after};
 ghost use Rattle.body_sending.specs.Steps.{Abandons, Attempts, IsJudged, Notes, Takes};
 ghost use Rattle.body_sending.specs.Views.{config_view};
 
@@ -223,6 +222,17 @@ impl<A: Allocator + Copy> BodySender<A> {
         self.body.clear();
         self.stage = Stage::NoBatch;
         desk.drain()
+    }
+
+    /// Forgets the batch that it has in hand, if it has one, and the outcome of its attempt: as where
+    /// the bodies of the batch are to be read and taken again. It takes no memory. (profile)
+    pub fn forget(&mut self)
+        ensures { self.new ≡ forgotten self.old }
+    {
+        if self.has_batch() {
+            self.body.clear();
+            self.stage = Stage::NoBatch;
+        }
     }
 
     /// Frees the room for a batch, where it has none in hand and the room is above `most` bytes, as

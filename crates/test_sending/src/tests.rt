@@ -5,4 +5,3 @@ mod equal;
 mod fixture;
 mod many;
 mod refusals;
-mod threads;

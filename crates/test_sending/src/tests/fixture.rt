@@ -1,14 +1,13 @@
 //! What the tests share: bodies by hand, a sink, exporters, and a relay of these parts.
 use crate::tests::equal::assert_equal;
-use body_desk::{AdmitFault, BodyConfig};
+use body_desk::{AdmitFault, BodyConfig, BodyDesk};
 use body_names::LostSink;
-use body_sending::{BodySender, SendConfig, SharedDesk, Tried};
+use body_sending::{BodySender, SendConfig};
 use otlp_ids::OutOfMemory;
 use retry_core::{Fate, Next, Outcome, RetryConfig};
 use span_exporter::{Exporter, MemoryExporter};
 use std::alloc::Global;
 use std::process::Abort;
-use std::sync::Wait;
 
 /// A second and a millisecond, in nanoseconds.
 pub(crate) const SECOND: u64 = 1_000_000_000;
@@ -104,23 +103,23 @@ pub(crate) fn config(rt: &impl Abort, attempts: Option<u32>) -> SendConfig {
 }
 
 /// A desk of batches of this number of bytes.
-pub(crate) fn desk_of(alloc: Global, batch_bytes: usize) -> SharedDesk {
+pub(crate) fn desk_of(alloc: Global, batch_bytes: usize) -> BodyDesk {
     let config = BodyConfig {
         batch_bytes,
         memory_bytes: 10_000_000,
     };
-    SharedDesk::new(alloc, config)
+    BodyDesk::new(alloc, config)
 }
 
 /// Admits a body; why it isn't kept, if so.
-pub(crate) fn admit<R: Abort + Wait>(
-    rt: &R,
+pub(crate) fn admit(
+    rt: &impl Abort,
     alloc: Global,
-    desk: &SharedDesk,
+    desk: &mut BodyDesk,
     body: &[u8],
 ) -> Option<AdmitFault> {
     let copy = body.to_vec(alloc).expect(rt, "memory");
-    match desk.admit(rt, copy) {
+    match desk.admit(copy) {
         Ok(()) => None,
         Err((fault, same)) => {
             assert_equal(rt, same.as_slice(), body);
@@ -130,35 +129,36 @@ pub(crate) fn admit<R: Abort + Wait>(
 }
 
 /// Admits bodies of one span each, by their ids.
-pub(crate) fn admit_all<R: Abort + Wait>(
-    rt: &R,
-    alloc: Global,
-    desk: &SharedDesk,
-    ids: &[(u8, u8)],
-) {
+pub(crate) fn admit_all(rt: &impl Abort, alloc: Global, desk: &mut BodyDesk, ids: &[(u8, u8)]) {
     for (trace, span) in ids {
         assert_equal(rt, admit(rt, alloc, desk, &body_of(*trace, *span)), None);
     }
 }
 
 /// The bodies that a desk admitted, delivered, lost and keeps.
-pub(crate) fn counts<R: Wait>(rt: &R, desk: &SharedDesk) -> (u64, u64, u64, u64) {
-    let counts = desk.counts(rt);
+pub(crate) fn counts(desk: &BodyDesk) -> (u64, u64, u64, u64) {
+    let counts = desk.counts();
     (counts.admitted, counts.delivered, counts.lost, counts.kept)
 }
 
-/// An attempt at this moment, whose outcome is judged at once, by the word 0; what follows, if it was
-/// made.
-pub(crate) fn step<R: Wait, E: Exporter>(
-    rt: &R,
-    desk: &SharedDesk,
+/// Takes the next batch and hands it on at this moment, and judges the outcome at once, by the word
+/// 0; what follows, if there is a batch and the moment is not before the one that it waits for.
+pub(crate) fn step<E: Exporter>(
+    rt: &impl Abort,
+    desk: &mut BodyDesk,
     sender: &mut BodySender,
     exporter: &mut E,
     sink: &mut Digits,
     now: u64,
 ) -> Option<Next> {
-    let Tried::Came(_) = desk.send_next(rt, sender, exporter, now) else {
+    if sender.early(now).is_some() || sender.has_batch() {
         return None;
-    };
-    desk.settle(rt, sender, now, 0, sink)
+    }
+    if !sender.take(desk).expect(rt, "memory") {
+        return None;
+    }
+    let _ = sender.attempt(exporter).expect(rt, "memory");
+    let settled = sender.settle(desk, now, 0);
+    settled.name(sink);
+    Some(settled.next)
 }
