@@ -3,3 +3,9 @@ mod Waits
 mod Sound
 mod Held
 mod Together
+mod Book
+mod Steps
+mod Known
+mod Balance
+mod Recalled
+mod Handled

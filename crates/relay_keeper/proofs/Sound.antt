@@ -8,14 +8,13 @@ use Rattle.model_desk.specs.Retries.{Fate, Next, fate_of}
 use Rattle.model_body.specs.Histories as events
 use Rattle.model_body.specs.Histories.{BodyEvent}
 use Rattle.model_body.specs.Desks.{BodyDesk, Does}
-use Rattle.body_sending.specs.Holds.{HasHistory}
 use Rattle.body_sending.specs.Steps.{Notes, NotesFate}
 use Rattle.spool_device.specs.Disks.{Disk}
 use Rattle.spool.specs.Spools.{numbered_from}
 use Rattle.spool.specs.Settled.{IsSettled}
 use Rattle.relay_keeper.specs.Fronts.{AreFirst, BeginWith, IsInUse, spool_waiting}
 use Rattle.relay_keeper.specs.Inside.{IsSound}
-use Rattle.relay_keeper.specs.Kept.{AdmitsFirst, PutsAll}
+use Rattle.relay_keeper.specs.Kept.{HasHistory, AdmitsFirst, PutsAll}
 use Rattle.relay_keeper.specs.declared.keeping.Keeping.TheInside.{Inside}
 use Rattle.relay_keeper.proofs.Fronts.{begin-front, begin-some, ended-count, front-ended, notes-end}
 use Rattle.relay_keeper.proofs.Fronts.{out-or-not}

@@ -1,9 +1,8 @@
 -- What the fields of what keeps bodies show, and what is true of them.
 use Rattle.std.specs.Prelude.{◌≡◌, ℕ, ◌+◌, ◌^◌, ◌<◌, true, false, IfSome, length}
-use Rattle.body_sending.specs.Holds.{HasHistory}
 use Rattle.spool_device.specs.Disks.{Disk}
 use Rattle.relay_keeper.specs.Fronts.{IsInUse}
-use Rattle.relay_keeper.specs.Kept.{Kept}
+use Rattle.relay_keeper.specs.Kept.{HasHistory, Kept}
 use Rattle.relay_keeper.specs.declared.keeping.Keeping.TheInside.{Inside}
 
 abbrev pub kept_view : {D : Type 0} → Inside D → Kept D

@@ -2,8 +2,8 @@
 use Rattle.std.specs.Prelude.{◌≡◌, ℕ, ◌+◌, ◌-◌, ◌^◌, min, Bool, List, [], ◌∷◌}
 use Rattle.std.specs.Prelude.{◌++◌, if◌then◌else◌, Option, IfSome, length}
 use Rattle.model_body.specs.Histories as events
-use Rattle.model_body.specs.Desks.{BodyDesk, Does, HasRoom, after}
-use Rattle.body_sending.specs.Holds.{HasHistory}
+use Rattle.model_body.specs.Histories.{BodyEvent}
+use Rattle.model_body.specs.Desks.{BodyDesk, Does, HasRoom, IsDesk, after}
 use Rattle.std.specs.List.{enumerate_from}
 use Rattle.spool_device.specs.Disks.{Disk}
 use Rattle.spool.specs.Spools.{HasNoRoom}
@@ -13,6 +13,11 @@ use Rattle.relay_keeper.specs.Fronts.{spool_waiting}
 use Rattle.relay_service.specs.declared.stats.Amounts.{Amounts}
 use Rattle.relay_service.specs.declared.stats.Report.{Report}
 use Rattle.relay_keeper.specs.declared.counts.Counts.{Counts}
+
+-- A desk shows what some events made of it, each of which was allowed.
+pub record HasHistory (desk : BodyDesk) : Type 0 where
+  pub events : List BodyEvent
+  pub is : IsDesk events desk
 
 -- The desk; whether bodies are kept in a spool; the spool, where it is there; whether it failed, so
 -- that it has to be opened again. All bodies of the spool with a number below the first one ended;

@@ -5,3 +5,7 @@ pub mod Inside
 pub mod Holds
 pub mod Together
 pub mod Sharing
+pub mod Accounts
+pub mod Agreement
+pub mod Handlers
+pub mod Balances

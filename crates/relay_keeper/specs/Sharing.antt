@@ -1,17 +1,34 @@
 -- What the fields of what the server's thread keeps bodies with show, and what is true of them.
-use Rattle.std.specs.Prelude.{ℕ, List}
+use Rattle.std.specs.Prelude.{◌≡◌, ℕ, ◌+◌, List, sum_by}
 use Rattle.spool_device.specs.Disks.{Disk}
 use Rattle.body_desk.specs.Bodies.{bodies_view}
+use Rattle.relay_keeper.specs.Holds.{KeepsInHold}
 use Rattle.relay_keeper.specs.Together.{AreKept, AreReadable}
+use Rattle.relay_keeper.specs.Accounts.{posted_in, posts}
 use Rattle.relay_keeper.specs.declared.keeper.SharedKeeper.TheInside.{Inside}
 
--- the bodies that were kept together and not recalled since
-abbrev pub recallable : {R D : Type 0} → Inside R D → List (List ℕ)
-recallable k = bodies_view k.kept.items
+-- The bodies that were kept through a keeper, in order, and those of them that were kept together
+-- and not recalled since.
+pub record Keeper : Type 0 where
+  pub posted : List (List ℕ)
+  pub recallable : List (List ℕ)
 
--- The bodies that were collected are read, and those that may be recalled are read and were kept.
-pub record IsSharing {R D : Type 0} (known : Type 0) (files : D → Disk) (moment : D → ℕ)
-    (left_at : D → ℕ → Disk → Type 0) (k : Inside R D) : Type 0 where
+abbrev pub keeper_view : {J R D : Type 0} → Inside J R D → Keeper
+keeper_view k = record { posted = posted_in k.account; recallable = bodies_view k.recallable.items }
+
+-- The account is one of bodies that were kept; those that were collected are read, and those that
+-- may be recalled are read and were kept.
+pub record IsSharing {J R D : Type 0} (known : Type 0) (files : D → Disk) (moment : D → ℕ)
+    (left_at : D → ℕ → Disk → Type 0) (k : Inside J R D) : Type 0 where
+  pub is_posts : k.account ≡ posts (posted_in k.account)
   pub collected : AreReadable k.collected.items
-  pub readable : AreReadable k.kept.items
-  pub kept : AreKept known files moment left_at k.kept.items
+  pub readable : AreReadable k.recallable.items
+  pub kept : AreKept known files moment left_at k.recallable.items
+
+-- A body was kept in a hold, and is answered for: it is one more of those that were kept through
+-- the keeper and may not be recalled, whatever of them is added up.
+pub record Answers {D : Type 0} (known : Type 0) (files : D → Disk) (moment : D → ℕ)
+    (left_at : D → ℕ → Disk → Type 0) (body : List ℕ) (old new : Keeper) : Type 0 where
+  pub keeps : KeepsInHold known files moment left_at body
+  pub one_more : (f : List ℕ → ℕ) → sum_by f new.posted + sum_by f old.recallable
+      ≡ sum_by f old.posted + sum_by f new.recallable + f body

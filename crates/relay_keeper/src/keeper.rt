@@ -1,15 +1,19 @@
 //! What the server's thread keeps bodies with.
-ghost use Rattle.std.specs.Prelude.{◌≡◌, IfSome, IsErrOf, OnOk, length};
-ghost use Rattle.relay_keeper.specs.Holds.{FailsInHold, KeepsInHold, LacksInHold, ReportsInHold};
-ghost use Rattle.relay_keeper.specs.Together.{AreKept, AreReadable, IsAt};
+ghost use Rattle.std.specs.Prelude.{◌≡◌, [], IfSome};
+ghost use Rattle.relay_keeper.specs.Balances.{Balances};
+ghost use Rattle.relay_keeper.specs.Together.{IsAt};
 
-use crate::keeping::Keeping;
+use crate::account::Account;
+use crate::accounted::Accounted;
+use crate::closer::Closer;
+use crate::sender::RelaySender;
+use account_book::Naming;
 use relay_service::{BodyKeeper, KeepFault, LostSpan, Report};
 use spool_device::Device;
 use std::alloc::{AllocError, Global};
 use std::marker::Model;
-use std::mem;
 use std::sync::{Arc, Mutex, Wait};
+use std::{fmt, mem};
 
 /// This many bodies are kept together at most.
 const MOST_BODIES: usize = 256;
@@ -17,16 +21,44 @@ const MOST_BODIES: usize = 256;
 /// This many bytes of bodies are kept together at most.
 const MOST_BYTES: usize = 4 * 1024 * 1024;
 
+/// The account of what keeps the bodies of one relay. In contracts it is the list of those that
+/// were kept through it.
+#[derive(Drop)]
+pub struct Poster<J: Naming> {
+    pub(crate) account: Account<J>,
+}
+
+impl<J: Naming> Model for Poster<J> {
+    ghost use Rattle.std.specs.Prelude.{◌≡◌, ℕ, List};
+    ghost use Rattle.relay_keeper.specs.Accounts.{posted_in, posts};
+
+    ghost Value = { List (List ℕ) };
+
+    ghost view = { λ p. posted_in p.account };
+
+    ghost invariant = { λ p. p.account ≡ posts (posted_in p.account) };
+}
+
+/// Writes the name of the type alone.
+impl<J: Naming> fmt::Debug for Poster<J> {
+    fn fmt<W: fmt::Write>(&self, f: &mut fmt::Formatter<W>) -> fmt::Result {
+        f.debug_struct("Poster").finish_non_exhaustive()
+    }
+}
+
 /// Keeps bodies under the lock that it shares with the sender's thread. Each call takes the lock
-/// once. What it says of a call is a step at what was kept in that hold, whatever that was.
+/// once. What it says of a call is a step at what was kept in that hold, whatever that was, and at
+/// its account.
 ///
 /// Where it collects, the bodies of a round are kept in one hold, with one sync of the spool. In
-/// contracts it is the bodies that were kept so and not recalled since.
+/// contracts it is a `Keeper`: the bodies that were kept, and those of them that were kept together
+/// and not recalled since.
 #[derive(Drop)]
-pub struct SharedKeeper<R, D: Device> {
+pub struct SharedKeeper<J: Naming, R, D: Device> {
     rt: R,
     alloc: Global,
-    keeping: Arc<Mutex<Keeping<D>>, Global>,
+    kept: Arc<Mutex<Accounted<J, D>>, Global>,
+    account: Account<J>,
     // Whether bodies are kept together.
     is_collecting: bool,
     // The bodies that are to be kept together, with the sums of their bytes and spans.
@@ -34,40 +66,59 @@ pub struct SharedKeeper<R, D: Device> {
     bytes: usize,
     spans: u64,
     // The bodies that were kept together and not recalled since.
-    kept: Vec<Vec<u8>>,
+    recallable: Vec<Vec<u8>>,
 }
 
-impl<R, D: Device> Model for SharedKeeper<R, D> {
-    ghost use Rattle.std.specs.Prelude.{ℕ, List};
+impl<J: Naming, R, D: Device> Model for SharedKeeper<J, R, D> {
+    ghost use Rattle.relay_keeper.specs.Sharing.{IsSharing, Keeper, keeper_view};
 
-    ghost Value = { List (List ℕ) };
+    ghost Value = { Keeper };
 
-    ghost use Rattle.relay_keeper.specs.Sharing.{IsSharing, recallable};
-
-    ghost view = { recallable };
+    ghost view = { keeper_view };
 
     ghost invariant = { IsSharing D.is_known D.files D.moment D.left_at };
 }
 
-impl<R, D: Device> SharedKeeper<R, D> {
-    /// One that shares this lock. It collects bodies, to keep them together, if it is told so, as
-    /// where they are kept in a spool.
+impl<J: Naming, R, D: Device> SharedKeeper<J, R, D> {
+    /// One that shares this lock, with the account of what is kept there. It collects bodies, to
+    /// keep them together, if it is told so, as where they are kept in a spool.
     pub fn new(
         rt: R,
         alloc: Global,
-        keeping: Arc<Mutex<Keeping<D>>, Global>,
+        kept: Arc<Mutex<Accounted<J, D>>, Global>,
+        poster: Poster<J>,
         is_collecting: bool,
-    ) -> SharedKeeper<R, D> {
+    ) -> SharedKeeper<J, R, D>
+        ensures { result ≡ record { posted = poster; recallable = [] } }
+    {
+        let Poster { account } = poster;
         SharedKeeper {
             rt,
             alloc,
-            keeping,
+            kept,
+            account,
             is_collecting,
             collected: Vec::new(alloc),
             bytes: 0,
             spans: 0,
-            kept: Vec::new(alloc),
+            recallable: Vec::new(alloc),
         }
+    }
+}
+
+impl<J: Naming, R: Wait, D: Device> SharedKeeper<J, R, D> {
+    /// Shows what became of all bodies that were kept through this keeper, for every interleaving
+    /// of its calls with those of the sender and of what gives bodies up: each is delivered, lost
+    /// by name, given up by name, or kept, and as often. Nothing is changed. (OTLP Specification,
+    /// "OTLP/HTTP Response"; profile)
+    pub fn balance(&mut self, sender: &mut RelaySender<J>, closer: &mut Closer<J>)
+        ensures balance { Balances self.old.posted sender.old.sent closer.old }
+        ensures keeper { self.new ≡ self.old }
+        ensures sender { sender.new ≡ sender.old }
+        ensures closer { closer.new ≡ closer.old }
+    {
+        let mut hold = self.kept.lock(&self.rt);
+        hold.balance(&mut self.account, &mut sender.account, &mut closer.account);
     }
 }
 
@@ -83,51 +134,11 @@ fn index_of(bodies: &[Vec<u8>], content: &[u8]) -> Option<usize>
     None
 }
 
-/// Keeps bodies together, which have this many spans, in a hold of the lock: those that are kept,
-/// which are all of them or none.
-fn keep_together_in<D: Device>(
-    alloc: Global,
-    keeping: &mut Keeping<D>,
-    bodies: Vec<Vec<u8>>,
-    spans: u64,
-) -> Vec<Vec<u8>>
-    requires { AreReadable bodies.items }
-    ensures readable { AreReadable result.items }
-    ensures kept { AreKept D.is_known D.files D.moment D.left_at result.items }
-{
-    match keeping.keep_together(&bodies, spans) {
-        Ok(()) => bodies,
-        Err(_) => Vec::new(alloc),
-    }
-}
+impl<J: Naming, R: Wait, D: Device> BodyKeeper for SharedKeeper<J, R, D> {
+    ghost use Rattle.relay_keeper.specs.Holds.{FailsInHold, LacksInHold, ReportsInHold};
+    ghost use Rattle.relay_keeper.specs.Sharing.{Answers};
 
-/// Keeps a body in a hold of the lock.
-fn keep_in<D: Device>(
-    keeping: &mut Keeping<D>,
-    body: Vec<u8>,
-    spans: usize,
-) -> Result<(), KeepFault>
-    ensures kept { OnOk result
-        (KeepsInHold D.is_known D.files D.moment D.left_at body.items) }
-    ensures full { IsErrOf result KeepFault.Full
-        → LacksInHold D.is_known D.files body.items }
-    ensures failed { IsErrOf result KeepFault.Failed → FailsInHold D }
-{
-    keeping.keep(body, spans)
-}
-
-/// Reports in a hold of the lock.
-fn report_in<D: Device>(keeping: &Keeping<D>) -> Report
-    ensures { ReportsInHold D result }
-{
-    keeping.report()
-}
-
-impl<R: Wait, D: Device> BodyKeeper for SharedKeeper<R, D> {
-    ghost use Rattle.relay_keeper.specs.Holds.{FailsInHold, KeepsInHold, LacksInHold};
-    ghost use Rattle.relay_keeper.specs.Holds.{ReportsInHold};
-
-    ghost keeps = { λ _ body _. KeepsInHold D.is_known D.files D.moment D.left_at body };
+    ghost keeps = { λ old body new. Answers D.is_known D.files D.moment D.left_at body old new };
 
     ghost lacks_room = { λ _ body. LacksInHold D.is_known D.files body };
 
@@ -136,8 +147,8 @@ impl<R: Wait, D: Device> BodyKeeper for SharedKeeper<R, D> {
     ghost reports = { λ _ report. ReportsInHold D report };
 
     fn keep(&mut self, body: Vec<u8>, spans: usize) -> Result<(), KeepFault> {
-        let mut hold = self.keeping.lock(&self.rt);
-        keep_in(&mut hold, body, spans)
+        let mut hold = self.kept.lock(&self.rt);
+        hold.keep(&mut self.account, body, spans)
     }
 
     fn collects(&self) -> bool {
@@ -159,31 +170,33 @@ impl<R: Wait, D: Device> BodyKeeper for SharedKeeper<R, D> {
         let bodies = mem::replace(&mut self.collected, Vec::new(self.alloc));
         let spans = mem::replace(&mut self.spans, 0);
         self.bytes = 0;
+        self.recallable = Vec::new(self.alloc);
         if bodies.is_empty() {
-            self.kept = Vec::new(self.alloc);
             return;
         }
-        let mut hold = self.keeping.lock(&self.rt);
-        let kept = keep_together_in(self.alloc, &mut hold, bodies, spans);
+        let mut hold = self.kept.lock(&self.rt);
+        let are_kept = hold.keep_together(&mut self.account, &bodies, spans);
         drop(hold);
-        self.kept = kept;
+        if are_kept {
+            self.recallable = bodies;
+        }
     }
 
     fn recall(&mut self, content: &[u8]) -> bool {
-        let Some(index) = index_of(&self.kept, content) else {
+        let Some(index) = index_of(&self.recallable, content) else {
             return false;
         };
-        let _body = self.kept.remove(index);
+        let _body = self.recallable.remove(index);
         true
     }
 
     fn report(&self) -> Report {
-        let hold = self.keeping.lock(&self.rt);
-        report_in(&hold)
+        let hold = self.kept.lock(&self.rt);
+        hold.report()
     }
 
     fn lost(&self, alloc: Global, most: usize) -> Result<Vec<LostSpan>, AllocError> {
-        let hold = self.keeping.lock(&self.rt);
+        let hold = self.kept.lock(&self.rt);
         hold.lost(alloc, most)
     }
 }

@@ -1,20 +1,21 @@
 //! What the lock guards.
 ghost use Rattle.std.specs.Prelude.{◌≡◌, ◌≢◌, ◌⊎◌, ◌+◌, ◌^◌, ◌<◌, ◌≤◌, [], IfOk, IfSome, IsErrOf};
-ghost use Rattle.std.specs.Prelude.{IsNone, IsSome, OnErr, OnOk, None, Some, false, length, true};
+ghost use Rattle.std.specs.Prelude.{OnErr, OnOk, None, Some, false, length, true};
 ghost use Rattle.std.specs.Prelude.{is_some};
 ghost use Rattle.std.specs.List.{AllByRecursion};
 ghost use Rattle.model_body.specs.Desks.{HasRoom, body_size, new_desk};
 ghost use Rattle.retry_core.specs.Retries.{next_view};
-ghost use Rattle.body_desk.specs.Bodies.{bodies_view, config_view};
+ghost use Rattle.model_body.specs.Histories.{idle};
+ghost use Rattle.body_desk.specs.Bodies.{MayNotTake, bodies_view, config_view};
 ghost use Rattle.body_sending.specs.Senders.{has_batch, is_pending};
 ghost use Rattle.body_sending.specs.Steps.{IsJudged, Notes, Takes};
-ghost use Rattle.body_sending.specs.Holds.{MayNotTakeInHold, NotesInHold, TakesInHold};
 ghost use Rattle.spool.specs.Spools.{numbered_from};
 ghost use Rattle.spool.specs.Settled.{IsSettled};
 ghost use Rattle.relay_keeper.specs.Fronts.{BeginWith, spool_waiting};
 ghost use Rattle.relay_keeper.specs.Kept.{Admits, AreFull, IsFull, Puts, PutsAll, with_attempt};
 ghost use Rattle.relay_keeper.specs.Kept.{with_desk};
-ghost use Rattle.relay_keeper.specs.Kept.{AreBodies, IsReport, kept_count, with_ended, with_received};
+ghost use Rattle.relay_keeper.specs.Kept.{AreBodies, IsReport, kept_count, with_ended};
+ghost use Rattle.relay_keeper.specs.Kept.{with_received};
 
 use crate::counts::Counts;
 use crate::names::{EndedSpans, copy_newest, keep_newest};
@@ -36,9 +37,9 @@ const OVERHEAD: usize = 96;
 /// The bodies that a relay keeps to hand them on, at a desk in memory or in a spool, and counts of
 /// what became of them (profile). In contracts it is a `Kept`.
 ///
-/// With a spool the desk has bodies of one of its files, the first ones that wait. Bodies that ended
-/// are noted in the spool as delivered, the lost ones too, once their spans are named: until then a
-/// crash brings them back.
+/// With a spool the desk has bodies of one of its files, the first ones that wait. Bodies that
+/// ended are noted in the spool as delivered, the lost ones too, once their spans are named: until
+/// then a crash brings them back.
 #[derive(Drop)]
 pub struct Keeping<D: Device> {
     alloc: Global,
@@ -115,9 +116,9 @@ fn first_after(is_spooled: bool, first: u64, count: u64) -> u64
 }
 
 impl<D: Device> Keeping<D> {
-    /// Nothing is kept yet, but for the bodies that wait in the spool, if there is one: one that was
-    /// opened. Call [`refill`](Keeping::refill) before a report is shown, since from then on it is
-    /// known how many wait. It takes no memory.
+    /// Nothing is kept yet, but for the bodies that wait in the spool, if there is one: one that
+    /// was opened. Call [`refill`](Keeping::refill) before a report is shown, since from then on it
+    /// is known how many wait. It takes no memory.
     pub fn new(alloc: Global, config: BodyConfig, spool: Option<Spool<D>>) -> Keeping<D>
         requires { D.is_known → IfSome spool (IsSettled D.files D.moment D.left_at) }
         ensures desk { result.desk ≡ new_desk (config_view config) }
@@ -146,8 +147,9 @@ impl<D: Device> Keeping<D> {
     ///
     /// # Errors
     ///
-    /// `Full` where it has no room, `OutOfMemory` where memory was refused: nothing is changed then.
-    /// `Failed` where the spool failed, and until it was opened again: it may have the body or not.
+    /// `Full` where it has no room, `OutOfMemory` where memory was refused: nothing is changed
+    /// then. `Failed` where the spool failed, and until it was opened again: it may have the body
+    /// or not.
     pub fn keep(&mut self, body: Vec<u8>, spans: usize) -> Result<(), KeepFault>
         ensures admitted { OnOk result (self.old.is_spooled ≡ false
             → Admits body.items spans self.old self.new) }
@@ -170,6 +172,8 @@ impl<D: Device> Keeping<D> {
         ensures memory_same { IsErrOf result KeepFault.OutOfMemory → self.new ≡ self.old }
         ensures failed { IsErrOf result KeepFault.Failed → self.new
             ≡ record self.old { spool = self.new.spool; has_failed = self.new.has_failed } }
+        ensures at_desk { OnErr result ((self.new.desk ≡ self.old.desk)
+            × (self.new.is_spooled ≡ self.old.is_spooled)) }
     {
         if self.is_spooled {
             return self.put(&body, spans as u64);
@@ -214,6 +218,8 @@ impl<D: Device> Keeping<D> {
         ensures memory { IsErrOf result KeepFault.OutOfMemory → ⊥ }
         ensures failed { IsErrOf result KeepFault.Failed → self.new
             ≡ record self.old { spool = self.new.spool; has_failed = self.new.has_failed } }
+        ensures at_desk { OnErr result ((self.new.desk ≡ self.old.desk)
+            × (self.new.is_spooled ≡ self.old.is_spooled)) }
     {
         if !is_within(body.len(), self.desk.config()) {
             return Err(KeepFault::Full);
@@ -243,6 +249,8 @@ impl<D: Device> Keeping<D> {
         ensures memory { IsErrOf result KeepFault.OutOfMemory → ⊥ }
         ensures failed { IsErrOf result KeepFault.Failed → self.new
             ≡ record self.old { spool = self.new.spool; has_failed = self.new.has_failed } }
+        ensures at_desk { OnErr result ((self.new.desk ≡ self.old.desk)
+            × (self.new.is_spooled ≡ self.old.is_spooled)) }
     {
         if !self.is_spooled || !are_within(bodies, self.desk.config()) {
             return Err(KeepFault::Full);
@@ -266,6 +274,8 @@ impl<D: Device> Keeping<D> {
         ensures memory { IsErrOf result KeepFault.OutOfMemory → ⊥ }
         ensures failed { IsErrOf result KeepFault.Failed → self.new
             ≡ record self.old { spool = self.new.spool; has_failed = self.new.has_failed } }
+        ensures at_desk { OnErr result ((self.new.desk ≡ self.old.desk)
+            × (self.new.is_spooled ≡ self.old.is_spooled)) }
     {
         if self.has_failed {
             return Err(KeepFault::Failed);
@@ -301,6 +311,8 @@ impl<D: Device> Keeping<D> {
             (spool_waiting D.files self.old.spool)) }
         ensures some { IfOk result (λ some. some ≡ true
             → (self.old.desk.kept ≡ []) × (self.new.desk.kept ≢ [])) }
+        ensures spooled { IfOk result (λ some. some ≡ true → self.old.is_spooled ≡ true) }
+        ensures none_read { OnErr result (self.new.desk.kept ≡ self.old.desk.kept) }
         ensures none { IfOk result (λ some. some ≡ false → D.is_known
             → self.old.is_spooled ≡ true → self.old.has_failed ≡ false
             → self.old.desk.kept ≡ [] → spool_waiting D.files self.old.spool ≡ []) }
@@ -344,13 +356,12 @@ impl<D: Device> Keeping<D> {
         requires { has_batch sender.old.stage ≡ false }
         ensures taken { IfOk result (λ some. some ≡ true
             → Takes sender.old self.old.desk sender.new self.new.desk) }
-        ensures hold { IfOk result (λ some. some ≡ true → TakesInHold sender.old sender.new) }
-        ensures none_in_hold { IfOk result (λ some. some ≡ false → MayNotTakeInHold) }
         ensures counted { IfOk result (λ some. some ≡ true → self.new ≡ record self.old {
           desk = self.new.desk;
           counts = with_attempt self.old.counts;
         }) }
-        ensures none { IfOk result (λ some. some ≡ false → (self.new ≡ self.old)
+        ensures none { IfOk result (λ some. some ≡ false → MayNotTake self.old.desk) }
+        ensures unchanged { IfOk result (λ some. some ≡ false → (self.new ≡ self.old)
             × (sender.new ≡ sender.old)) }
         ensures refused { OnErr result ((self.new ≡ self.old) × (sender.new ≡ sender.old)) }
     {
@@ -364,8 +375,8 @@ impl<D: Device> Keeping<D> {
         }
     }
 
-    /// Judges the outcome of a sender's attempt, and hands out the bodies that end by it, which wait
-    /// in the spool until [`note`](Keeping::note).
+    /// Judges the outcome of a sender's attempt, and hands out the bodies that end by it, which
+    /// wait in the spool until [`note`](Keeping::note).
     pub(crate) fn settle(
         &mut self,
         sender: &mut BodySender,
@@ -376,7 +387,6 @@ impl<D: Device> Keeping<D> {
         ensures judged { IsJudged now word sender.old (next_view result.0) sender.new }
         ensures noted { Notes (next_view result.0) (bodies_view result.1.bodies.items)
             self.old.desk self.new.desk }
-        ensures hold { NotesInHold (next_view result.0) (bodies_view result.1.bodies.items) }
         ensures first { self.old.is_spooled ≡ true
             → self.new.first ≡ self.old.first + length result.1.bodies.items }
         ensures first_in_memory { self.old.is_spooled ≡ false
@@ -404,7 +414,8 @@ impl<D: Device> Keeping<D> {
             → (result.bodies.items ≡ []) × (self.new ≡ self.old) }
         ensures bodies { self.old.is_spooled ≡ false
             → bodies_view result.bodies.items ≡ self.old.desk.kept }
-        ensures none { self.old.is_spooled ≡ false → self.new.desk.kept ≡ [] }
+        ensures none { self.old.is_spooled ≡ false
+            → (self.new.desk.kept ≡ []) × (self.new.desk.turn ≡ idle) }
         ensures only { self.new ≡ record self.old { desk = self.new.desk } }
     {
         let bodies = if self.is_spooled {
@@ -460,7 +471,8 @@ impl<D: Device> Keeping<D> {
     where
         D: Drop,
         requires { D.is_known → IsSettled D.files D.moment D.left_at spool }
-        ensures noted { self.new.has_failed ≡ false → D.is_known → spool_waiting D.files self.new.spool
+        ensures noted { self.new.has_failed ≡ false → D.is_known
+            → spool_waiting D.files self.new.spool
             ≡ numbered_from self.old.first (spool_waiting D.files (Some spool)) }
         ensures desk { self.new.desk ≡ new_desk self.old.desk.config }
         ensures only { self.new ≡ record self.old {
@@ -478,6 +490,13 @@ impl<D: Device> Keeping<D> {
         self.is_spooled = true;
         self.spool = Some(spool);
         self.has_failed = note_into(self.alloc, &mut self.spool, self.first);
+    }
+
+    /// Whether bodies are kept in a spool.
+    pub(crate) fn is_spooled(&self) -> bool
+        ensures { result ≡ self.now.is_spooled }
+    {
+        self.is_spooled
     }
 
     /// Whether the spool failed, and wasn't opened again.

@@ -1,5 +1,5 @@
 //! What is done at a spool, where it is there.
-ghost use Rattle.std.specs.Prelude.{◌≡◌, ◌≢◌, ◌+◌, ◌^◌, ◌<◌, [], ◌∷◌, IfOk, IfSome, IsErrOf, IsNone};
+ghost use Rattle.std.specs.Prelude.{◌≡◌, ◌≢◌, ◌+◌, ◌^◌, ◌<◌, [], IfOk, IfSome, IsErrOf, IsNone};
 ghost use Rattle.std.specs.Prelude.{IsSome, OnErr, OnOk, false, length};
 ghost use Rattle.body_desk.specs.Bodies.{bodies_view};
 ghost use Rattle.spool.specs.Spools.{numbered_from, waiting};

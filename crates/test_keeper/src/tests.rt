@@ -7,4 +7,5 @@ mod many;
 mod memory;
 mod parts;
 mod spooled;
+mod threads;
 mod together;

@@ -1,5 +1,5 @@
-//! A device in memory that keeps nothing of what was there before, so that it may be large. It fails
-//! once it has done so many calls.
+//! A device in memory that keeps nothing of what was there before, so that it may be large. It
+//! fails once it has done so many calls.
 ghost use Rattle.std.specs.Prelude.{◌≡◌, ◌<◌, ◌^◌, [], All, IfOk};
 
 use spool_device::{Device, DeviceError, MemoryFile};

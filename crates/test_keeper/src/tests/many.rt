@@ -1,46 +1,40 @@
 //! Thousands of bodies, in several files.
+ghost use Rattle.std.specs.Prelude.{◌≡◌};
+
 use crate::tests::device::LightDevice;
 use crate::tests::equal::assert_equal;
-use crate::tests::parts::{Digits, config, exporter, keep, opened, sender};
-use relay_keeper::{Keeping, finish, try_next};
-use std::sync::Mutex;
+use crate::tests::parts::{Relay, amounts, config, numbered, opened, sent_in_order};
+use relay_keeper::{Naming, RelayBlank};
+use std::alloc::Global;
+use std::marker::Brand;
+use std::process::Abort;
+use std::sync::Wait;
 
 /// How many bodies there are.
 const MANY: u64 = 10_000;
 
-#[test]
-fn thousands_of_bodies_arrive_in_order(rt: HostRuntime) {
-    let alloc = rt.alloc();
+/// Keeps them all, and sends them all.
+fn send_many<J: Naming, R: Wait + Abort + Copy>(rt: R, alloc: Global, blank: RelayBlank)
+    requires { blank ≡ J.name }
+{
     let device = LightDevice::new(alloc, Vec::new(alloc), u64::MAX);
     let spool = opened(alloc, device, 1_000_000, 40_000).expect(&rt, "a spool");
-    let keeping = Mutex::new(Keeping::new(alloc, config(1_000, 200_000), Some(spool)));
-    let mut sender = sender(alloc);
-    let mut exporter = exporter(alloc, &[]).expect(&rt, "memory");
+    let config = config(1_000, 200_000);
+    let mut relay = Relay::<J, R, LightDevice>::new(rt, alloc, blank, config, Some(spool), &[]);
     for number in 0..MANY {
-        let bytes = number.to_le_bytes();
-        let kept = keep(&rt, alloc, &mut keeping.lock(&rt), &bytes, 0);
-        assert_equal(&rt, kept, Ok(()));
+        assert_equal(&rt, relay.keep(&numbered(number)), Ok(()));
     }
     for _attempt in 0..MANY {
-        let _ = try_next(&rt, &keeping, &mut sender, &mut exporter, 0);
-        let next = finish(&rt, &keeping, &mut sender, 0, 0, &mut Digits::new());
-        if next.is_none() {
+        let _ = relay.try_next(0);
+        if relay.finish().is_none() {
             break;
         }
     }
-    let mut number: u64 = 0;
-    for attempt in exporter.handed() {
-        for found in attempt.body.chunks_exact(8) {
-            assert_equal(&rt, found, number.to_le_bytes().as_slice());
-            number = number.saturating_add(1);
-        }
-    }
-    assert_equal(&rt, number, MANY);
-    let report = keeping.lock(&rt).report();
-    let bodies = report.bodies;
-    assert_equal(
-        &rt,
-        (bodies.received, bodies.delivered, bodies.kept),
-        (MANY, MANY, 0),
-    );
+    assert_equal(&rt, sent_in_order(&relay.exporter), Some(MANY));
+    assert_equal(&rt, relay.amounts().0, amounts(MANY, MANY, 0));
+}
+
+#[test]
+fn thousands_of_bodies_arrive_in_order(rt: HostRuntime) {
+    send_many::<Brand, HostRuntime>(rt, rt.alloc(), RelayBlank::new());
 }

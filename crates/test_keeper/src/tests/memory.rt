@@ -1,53 +1,50 @@
 //! Bodies that are kept in memory.
+ghost use Rattle.std.specs.Prelude.{◌≡◌};
+
 use crate::tests::equal::assert_equal;
-use crate::tests::parts::{Digits, FIRST, SECOND, config, exporter, handed, keep, sender};
-use relay_keeper::{Keeping, SharedKeeper, Tried, drain, finish, try_next};
-use relay_service::{Amounts, BodyKeeper, KeepFault, Loss, Report};
+use crate::tests::parts::{FIRST, Relay, SECOND, amounts, config};
+use relay_keeper::{Naming, RelayBlank, Tried};
+use relay_service::{BodyKeeper, KeepFault, Loss, Report};
 use retry_core::{Cause, Next, Outcome};
 use spool_device::MemoryDevice;
 use std::alloc::Global;
-use std::sync::{Arc, Mutex};
+use std::marker::Brand;
+use std::process::Abort;
+use std::sync::Wait;
 
-/// Nothing is kept, in memory of so many bytes, in batches of a hundred.
-fn empty(alloc: Global, memory_bytes: usize) -> Keeping<MemoryDevice> {
-    Keeping::new(alloc, config(100, memory_bytes), None)
+/// When a batch without a reply is sent again: a second later, in nanoseconds.
+const LATER: u64 = 1_000_000_000;
+
+/// A relay that keeps bodies in memory of so many bytes, in batches of a hundred.
+fn in_memory<J: Naming, R: Wait + Abort + Copy>(
+    rt: R,
+    alloc: Global,
+    blank: RelayBlank,
+    memory_bytes: usize,
+    outcomes: &[Outcome],
+) -> Relay<J, R, MemoryDevice>
+    requires { blank ≡ J.name }
+{
+    Relay::new(rt, alloc, blank, config(100, memory_bytes), None, outcomes)
 }
 
-/// So many were received, of which as many were delivered and lost.
-pub(crate) fn amounts(received: u64, delivered: u64, lost: u64) -> Amounts {
-    Amounts {
-        received,
-        kept: received.saturating_sub(delivered).saturating_sub(lost),
-        delivered,
-        lost,
-    }
-}
-
-#[test]
-fn bodies_are_delivered(rt: HostRuntime) {
-    let alloc = rt.alloc();
-    let keeping = Mutex::new(empty(alloc, 1_000));
-    let mut sender = sender(alloc);
-    let mut exporter = exporter(alloc, &[Outcome::NoReply]).expect(&rt, "memory");
-    let mut sink = Digits::new();
-    let first = keep(&rt, alloc, &mut keeping.lock(&rt), &FIRST, 1);
-    let second = keep(&rt, alloc, &mut keeping.lock(&rt), &[], 0);
-    assert_equal(&rt, (first, second), (Ok(()), Ok(())));
-    let tried = try_next(&rt, &keeping, &mut sender, &mut exporter, 0);
+/// No reply comes at first, so the batch is sent again, not before its moment.
+fn deliver<J: Naming, R: Wait + Abort + Copy>(rt: R, alloc: Global, blank: RelayBlank)
+    requires { blank ≡ J.name }
+{
+    let mut relay = in_memory::<J, R>(rt, alloc, blank, 1_000, &[Outcome::NoReply]);
+    let kept = (relay.keep(&FIRST), relay.keep(&[]));
+    assert_equal(&rt, kept, (Ok(()), Ok(())));
+    let tried = relay.try_next(0);
     assert_equal(&rt, tried, Tried::Came(Outcome::NoReply));
-    let tried = try_next(&rt, &keeping, &mut sender, &mut exporter, 0);
-    assert_equal(&rt, tried, Tried::Unjudged);
-    let next = finish(&rt, &keeping, &mut sender, 0, 0, &mut sink);
-    assert_equal(&rt, next, Some(Next::Again(1_000_000_000)));
-    let tried = try_next(&rt, &keeping, &mut sender, &mut exporter, 999_999_999);
-    assert_equal(&rt, tried, Tried::Early(1_000_000_000));
-    let tried = try_next(&rt, &keeping, &mut sender, &mut exporter, 1_000_000_000);
+    assert_equal(&rt, relay.try_next(0), Tried::Unjudged);
+    assert_equal(&rt, relay.finish(), Some(Next::Again(LATER)));
+    assert_equal(&rt, relay.try_next(LATER - 1), Tried::Early(LATER));
+    let tried = relay.try_next(LATER);
     assert_equal(&rt, tried, Tried::Came(Outcome::Delivered));
-    let next = finish(&rt, &keeping, &mut sender, 0, 0, &mut sink);
-    let none = finish(&rt, &keeping, &mut sender, 0, 0, &mut sink);
-    assert_equal(&rt, (next, none), (Some(Next::Done), None));
-    let tried = try_next(&rt, &keeping, &mut sender, &mut exporter, 0);
-    assert_equal(&rt, tried, Tried::Nothing);
+    let next = (relay.finish(), relay.finish());
+    assert_equal(&rt, next, (Some(Next::Done), None));
+    assert_equal(&rt, relay.try_next(0), Tried::Nothing);
     let wanted = Report {
         bodies: amounts(2, 2, 0),
         spans: amounts(1, 1, 0),
@@ -55,42 +52,38 @@ fn bodies_are_delivered(rt: HostRuntime) {
         attempts: 2,
         has_failed: false,
     };
-    assert_equal(&rt, keeping.lock(&rt).report(), wanted);
-    let bytes = handed(alloc, &exporter).expect(&rt, "memory");
-    assert_equal(&rt, bytes.len(), 24);
-    assert_equal(&rt, sink.names, 0);
+    assert_equal(&rt, relay.keeper.report(), wanted);
+    assert_equal(&rt, (relay.sent_bytes(), relay.sink.names), (24, 0));
 }
 
 #[test]
-fn a_refused_body_is_lost_by_name(rt: HostRuntime) {
-    let alloc = rt.alloc();
-    let keeping = Mutex::new(empty(alloc, 1_000));
-    let mut sender = sender(alloc);
+fn bodies_are_delivered(rt: HostRuntime) {
+    deliver::<Brand, HostRuntime>(rt, rt.alloc(), RelayBlank::new());
+}
+
+/// The two bodies of a batch that is refused are sent alone, and one is refused again. A third one
+/// is given up. The accounts say what became of each.
+fn refuse<J: Naming, R: Wait + Abort + Copy>(rt: R, alloc: Global, blank: RelayBlank)
+    requires { blank ≡ J.name }
+{
     let refused = Outcome::Refused(413);
     let outcomes = [refused, Outcome::Delivered, refused];
-    let mut exporter = exporter(alloc, &outcomes).expect(&rt, "memory");
-    let mut sink = Digits::new();
-    for body in [FIRST.as_slice(), SECOND.as_slice()] {
-        let kept = keep(&rt, alloc, &mut keeping.lock(&rt), body, 1);
-        assert_equal(&rt, kept, Ok(()));
-    }
+    let mut relay = in_memory::<J, R>(rt, alloc, blank, 1_000, &outcomes);
+    let kept = (relay.keep(&FIRST), relay.keep(&SECOND));
+    assert_equal(&rt, kept, (Ok(()), Ok(())));
     for next in [
         Next::GiveUp(Cause::Refused(413)),
         Next::Done,
         Next::GiveUp(Cause::Refused(413)),
     ] {
-        let _ = try_next(&rt, &keeping, &mut sender, &mut exporter, 0);
-        let judged = finish(&rt, &keeping, &mut sender, 0, 0, &mut sink);
-        assert_equal(&rt, judged, Some(next));
+        let _ = relay.try_next(0);
+        assert_equal(&rt, relay.finish(), Some(next));
     }
+    let sink = &relay.sink;
     assert_equal(&rt, (sink.names, sink.digits, sink.status), (1, 34, 413));
-    let report = keeping.lock(&rt).report();
-    assert_equal(
-        &rt,
-        (report.bodies, report.spans),
-        (amounts(2, 1, 1), amounts(2, 1, 1)),
-    );
-    let names = keeping.lock(&rt).lost(alloc, 10).expect(&rt, "memory");
+    let wanted = amounts(2, 1, 1);
+    assert_equal(&rt, relay.amounts(), (wanted, wanted));
+    let names = relay.keeper.lost(alloc, 10).expect(&rt, "memory");
     for name in &names {
         assert_equal(
             &rt,
@@ -100,26 +93,32 @@ fn a_refused_body_is_lost_by_name(rt: HostRuntime) {
         assert_equal(&rt, name.loss, Loss::Refused(413));
     }
     assert_equal(&rt, names.len(), 1);
+    assert_equal(&rt, relay.keep(&FIRST), Ok(()));
+    relay.drain();
+    relay.keeper.balance(&mut relay.sender, &mut relay.closer);
+    assert_equal(&rt, relay.amounts(), (amounts(3, 1, 2), amounts(3, 1, 2)));
 }
 
 #[test]
-fn what_is_left_at_a_stop_is_named(rt: HostRuntime) {
-    let alloc = rt.alloc();
-    let keeping = Mutex::new(empty(alloc, 1_000));
-    let mut sink = Digits::new();
-    for body in [FIRST.as_slice(), SECOND.as_slice()] {
-        let kept = keep(&rt, alloc, &mut keeping.lock(&rt), body, 1);
-        assert_equal(&rt, kept, Ok(()));
-    }
-    drain(&rt, &keeping, &mut sink);
+fn a_refused_body_is_lost_by_name(rt: HostRuntime) {
+    refuse::<Brand, HostRuntime>(rt, rt.alloc(), RelayBlank::new());
+}
+
+/// What is kept is given up, and from then on nothing is kept.
+fn stop<J: Naming, R: Wait + Abort + Copy>(rt: R, alloc: Global, blank: RelayBlank)
+    requires { blank ≡ J.name }
+{
+    let mut relay = in_memory::<J, R>(rt, alloc, blank, 1_000, &[]);
+    let kept = (relay.keep(&FIRST), relay.keep(&SECOND));
+    assert_equal(&rt, kept, (Ok(()), Ok(())));
+    assert_equal(&rt, relay.amounts(), (amounts(2, 0, 0), amounts(2, 0, 0)));
+    relay.drain();
+    let sink = &relay.sink;
     assert_equal(&rt, (sink.names, sink.digits, sink.status), (2, 1234, 0));
-    let report = keeping.lock(&rt).report();
-    assert_equal(
-        &rt,
-        (report.bodies, report.spans),
-        (amounts(2, 0, 2), amounts(2, 0, 2)),
-    );
-    let names = keeping.lock(&rt).lost(alloc, 1).expect(&rt, "memory");
+    assert_equal(&rt, relay.keep(&FIRST), Err(KeepFault::Failed));
+    assert_equal(&rt, relay.amounts(), (amounts(2, 0, 2), amounts(2, 0, 2)));
+    assert_equal(&rt, relay.try_next(0), Tried::Nothing);
+    let names = relay.keeper.lost(alloc, 1).expect(&rt, "memory");
     for name in &names {
         assert_equal(
             &rt,
@@ -128,36 +127,34 @@ fn what_is_left_at_a_stop_is_named(rt: HostRuntime) {
         );
     }
     assert_equal(&rt, names.len(), 1);
-    drain(&rt, &keeping, &mut sink);
-    assert_equal(&rt, sink.names, 2);
+    let names = relay.keeper.lost(alloc, 5).expect(&rt, "memory");
+    assert_equal(&rt, names.len(), 2);
+    relay.drain();
+    assert_equal(&rt, relay.sink.names, 2);
+}
+
+#[test]
+fn what_is_left_at_a_stop_is_named(rt: HostRuntime) {
+    stop::<Brand, HostRuntime>(rt, rt.alloc(), RelayBlank::new());
+}
+
+/// What two bodies of 12 bytes come to, in memory of so many bytes.
+fn keep_two<J: Naming, R: Wait + Abort + Copy>(
+    rt: R,
+    alloc: Global,
+    blank: RelayBlank,
+    memory_bytes: usize,
+) -> (Result<(), KeepFault>, Result<(), KeepFault>)
+    requires { blank ≡ J.name }
+{
+    let mut relay = in_memory::<J, R>(rt, alloc, blank, memory_bytes, &[]);
+    (relay.keep(&FIRST), relay.keep(&FIRST))
 }
 
 #[test]
 fn a_body_above_the_memory_has_no_room(rt: HostRuntime) {
-    let alloc = rt.alloc();
     for (memory, wanted) in [(107, Err(KeepFault::Full)), (108, Ok(()))] {
-        let mut keeping = empty(alloc, memory);
-        assert_equal(&rt, keep(&rt, alloc, &mut keeping, &FIRST, 1), wanted);
-        assert_equal(
-            &rt,
-            keep(&rt, alloc, &mut keeping, &FIRST, 1),
-            Err(KeepFault::Full),
-        );
+        let kept = keep_two::<Brand, HostRuntime>(rt, rt.alloc(), RelayBlank::new(), memory);
+        assert_equal(&rt, kept, (wanted, Err(KeepFault::Full)));
     }
-}
-
-#[test]
-fn a_keeper_shares_what_is_kept(rt: HostRuntime) {
-    let alloc = rt.alloc();
-    let shared = Arc::new(alloc, Mutex::new(empty(alloc, 1_000))).expect(&rt, "memory");
-    let other = Arc::try_clone(&shared).expect(&rt, "memory");
-    let mut keeper = SharedKeeper::new(&rt, alloc, other, false);
-    let mut sink = Digits::new();
-    let kept = keep(&rt, alloc, &mut shared.lock(&rt), &FIRST, 1);
-    assert_equal(&rt, kept, Ok(()));
-    assert_equal(&rt, keeper.report().bodies, amounts(1, 0, 0));
-    drain(&rt, &shared, &mut sink);
-    assert_equal(&rt, keeper.report().bodies, amounts(1, 0, 1));
-    let names = keeper.lost(alloc, 5).expect(&rt, "memory");
-    assert_equal(&rt, names.len(), 1);
 }

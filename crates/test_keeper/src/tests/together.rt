@@ -1,16 +1,19 @@
 //! Posts of a round that are kept together, with one sync.
+ghost use Rattle.std.specs.Prelude.{◌≡◌};
+
 use crate::tests::device::LightDevice;
 use crate::tests::equal::assert_equal;
-use crate::tests::parts::{FIRST, SECOND, config, opened};
+use crate::tests::parts::{FIRST, Relay, SECOND, config, opened};
 use http_connection::{Connection, Gathers, Limits};
-use relay_keeper::{Keeping, SharedKeeper};
+use relay_keeper::{Naming, RelayBlank, SharedKeeper};
 use relay_service::{Hosts, NoPieces, RelayService};
 use std::alloc::{AllocError, Global};
 use std::hash::RandomState;
+use std::marker::Brand;
 use std::net::{IpAddr, Ipv4Addr};
 use std::process::Abort;
 use std::random::RandomSource;
-use std::sync::{Arc, Mutex, Wait};
+use std::sync::Wait;
 use std::test::Fail;
 
 /// The room that is left for what is pending.
@@ -21,7 +24,7 @@ const HEAD: &[u8] = b"POST /v1/traces HTTP/1.1\r\nhost: localhost:4318\r\n\
 content-type: application/x-protobuf\r\ncontent-length: 12\r\n\r\n";
 
 /// A service that keeps bodies together.
-type Relay<R> = RelayService<SharedKeeper<R, LightDevice>>;
+type Service<J, R> = RelayService<SharedKeeper<J, R, LightDevice>>;
 
 /// A post of a body.
 fn post(alloc: Global, body: &[u8]) -> Result<Vec<u8>, AllocError> {
@@ -30,21 +33,19 @@ fn post(alloc: Global, body: &[u8]) -> Result<Vec<u8>, AllocError> {
     Ok(bytes)
 }
 
-/// A service over what is kept.
-fn relay<R: Wait + Copy>(
-    rt: R,
+/// A service over what keeps bodies.
+fn service_of<J: Naming, R: Wait + Copy>(
     alloc: Global,
-    keeping: Arc<Mutex<Keeping<LightDevice>>, Global>,
-) -> Result<Relay<R>, AllocError> {
+    keeper: SharedKeeper<J, R, LightDevice>,
+) -> Result<Service<J, R>, AllocError> {
     let hosts = Hosts::new(alloc, IpAddr::V4(Ipv4Addr::LOCALHOST), 4318, &[])?;
-    let keeper = SharedKeeper::new(rt, alloc, keeping, true);
     Ok(RelayService::new(alloc, keeper, hosts, 1_000))
 }
 
 /// Reads what a client sends up to a whole request, which the service is shown.
-fn read<R: Wait>(
+fn read<J: Naming, R: Wait>(
     connection: &mut Connection<NoPieces>,
-    service: &mut Relay<R>,
+    service: &mut Service<J, R>,
     input: &[u8],
 ) -> Result<(), Fail> {
     let mut reader = input;
@@ -60,10 +61,10 @@ fn read<R: Wait>(
 }
 
 /// What a client is answered.
-fn answer<R: Wait>(
+fn answer<J: Naming, R: Wait>(
     alloc: Global,
     connection: &mut Connection<NoPieces>,
-    service: &mut Relay<R>,
+    service: &mut Service<J, R>,
 ) -> Result<Vec<u8>, Fail> {
     let mut output = Vec::new(alloc);
     connection.advance(service, ROOM);
@@ -85,19 +86,27 @@ struct Came {
 
 /// A round in which two clients send these bytes, over a device that does so many calls. `None`
 /// where these are too few to open a spool.
-fn round<R: Wait + Abort + RandomSource + Copy>(
+fn round<J: Naming, R: Wait + Abort + RandomSource + Copy>(
     rt: R,
     alloc: Global,
+    blank: RelayBlank,
     calls: u64,
     inputs: (&[u8], &[u8]),
-) -> Result<Option<Came>, Fail> {
+) -> Result<Option<Came>, Fail>
+    requires { blank ≡ J.name }
+{
     let device = LightDevice::new(alloc, Vec::new(alloc), calls);
     let Ok(spool) = opened(alloc, device, 1_000, 600) else {
         return Ok(None);
     };
-    let keeping = Keeping::new(alloc, config(100, 1_000), Some(spool));
-    let shared = Arc::new(alloc, Mutex::new(keeping))?;
-    let mut service = relay(rt, alloc, Arc::try_clone(&shared)?)?;
+    let config = config(100, 1_000);
+    let Relay {
+        kept,
+        keeper,
+        mut sender,
+        ..
+    } = Relay::<J, R, LightDevice>::new(rt, alloc, blank, config, Some(spool), &[]);
+    let mut service = service_of(alloc, keeper)?;
     let mut first = Connection::new(alloc, RandomState::new(&rt)?, Limits::default());
     let mut second = Connection::new(alloc, RandomState::new(&rt)?, Limits::default());
     read(&mut first, &mut service, inputs.0)?;
@@ -106,12 +115,22 @@ fn round<R: Wait + Abort + RandomSource + Copy>(
     service.settle();
     let first = answer(alloc, &mut first, &mut service)?;
     let second = answer(alloc, &mut second, &mut service)?;
-    let spool = shared.lock(&rt).take_spool().expect(&rt, "a spool");
+    let spool = sender.take_spool(&rt, &kept).expect(&rt, "a spool");
     Ok(Some(Came {
         first,
         second,
         syncs: spool.into_device().syncs,
     }))
+}
+
+/// The same, of a relay of its own.
+fn play<R: Wait + Abort + RandomSource + Copy>(
+    rt: R,
+    alloc: Global,
+    calls: u64,
+    inputs: (&[u8], &[u8]),
+) -> Result<Option<Came>, Fail> {
+    round::<Brand, R>(rt, alloc, RelayBlank::new(), calls, inputs)
 }
 
 /// Whether an answer says that all was taken.
@@ -124,9 +143,9 @@ fn two_posts_take_as_many_syncs_as_one(rt: HostRuntime) -> Result<(), Fail> {
     let alloc = rt.alloc();
     let first = post(alloc, &FIRST)?;
     let second = post(alloc, &SECOND)?;
-    let none = round(&rt, alloc, u64::MAX, (b"", b""))?.expect(&rt, "a spool");
-    let one = round(&rt, alloc, u64::MAX, (&first, b""))?.expect(&rt, "a spool");
-    let both = round(&rt, alloc, u64::MAX, (&first, &second))?.expect(&rt, "a spool");
+    let none = play(rt, alloc, u64::MAX, (b"", b""))?.expect(&rt, "a spool");
+    let one = play(rt, alloc, u64::MAX, (&first, b""))?.expect(&rt, "a spool");
+    let both = play(rt, alloc, u64::MAX, (&first, &second))?.expect(&rt, "a spool");
     assert_equal(&rt, is_taken(&one.first), true);
     assert_equal(
         &rt,
@@ -141,8 +160,8 @@ fn two_posts_take_as_many_syncs_as_one(rt: HostRuntime) -> Result<(), Fail> {
 fn of_equal_posts_each_is_kept(rt: HostRuntime) -> Result<(), Fail> {
     let alloc = rt.alloc();
     let first = post(alloc, &FIRST)?;
-    let one = round(&rt, alloc, u64::MAX, (&first, b""))?.expect(&rt, "a spool");
-    let both = round(&rt, alloc, u64::MAX, (&first, &first))?.expect(&rt, "a spool");
+    let one = play(rt, alloc, u64::MAX, (&first, b""))?.expect(&rt, "a spool");
+    let both = play(rt, alloc, u64::MAX, (&first, &first))?.expect(&rt, "a spool");
     assert_equal(
         &rt,
         (is_taken(&both.first), is_taken(&both.second)),
@@ -162,7 +181,7 @@ fn where_the_device_fails_both_are_refused(rt: HostRuntime) -> Result<(), Fail> 
     let second = post(alloc, &SECOND)?;
     let mut refused = 0u64;
     for calls in 1..CALLS {
-        let Some(came) = round(&rt, alloc, calls, (&first, &second))? else {
+        let Some(came) = play(rt, alloc, calls, (&first, &second))? else {
             continue;
         };
         assert_equal(&rt, is_taken(&came.first), is_taken(&came.second));
@@ -181,7 +200,7 @@ fn a_post_that_follows_another_one_is_kept_too(rt: HostRuntime) -> Result<(), Fa
     let first = post(alloc, &FIRST)?;
     let mut both = post(alloc, &SECOND)?;
     both.extend_from_slice(&first)?;
-    let came = round(&rt, alloc, u64::MAX, (&first, &both))?.expect(&rt, "a spool");
+    let came = play(rt, alloc, u64::MAX, (&first, &both))?.expect(&rt, "a spool");
     assert_equal(&rt, is_taken(&came.first), true);
     assert_equal(&rt, is_taken(&came.second), true);
     assert_equal(&rt, came.second.len(), came.first.len().saturating_mul(2));
@@ -192,13 +211,8 @@ fn a_post_that_follows_another_one_is_kept_too(rt: HostRuntime) -> Result<(), Fa
 fn a_silent_client_holds_up_no_other_one(rt: HostRuntime) -> Result<(), Fail> {
     let alloc = rt.alloc();
     let first = post(alloc, &FIRST)?;
-    let came = round(
-        &rt,
-        alloc,
-        u64::MAX,
-        (b"POST /v1/traces HTTP/1.1\r\n", &first),
-    )?
-    .expect(&rt, "a spool");
+    let inputs: (&[u8], &[u8]) = (b"POST /v1/traces HTTP/1.1\r\n", &first);
+    let came = play(rt, alloc, u64::MAX, inputs)?.expect(&rt, "a spool");
     assert_equal(&rt, came.first.is_empty(), true);
     assert_equal(&rt, is_taken(&came.second), true);
     Ok(())

@@ -1,7 +1,7 @@
 use Rattle.std.proofs.Common.{◌≡◌, ◌++◌, ◌+◌, length}
 use Rattle.std.specs.Vec.Iter.{into_iter_items}
 use Rattle.body_desk.specs.Bodies.{bodies_view}
-use Rattle.body_sending.specs.Holds.{HasHistory}
+use Rattle.relay_keeper.specs.Kept.{HasHistory}
 use Rattle.relay_keeper.proofs.waiting.admit_all.Given as goal
 
 -- the bodies so far are admitted, and the others are to come
