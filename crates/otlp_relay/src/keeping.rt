@@ -4,13 +4,13 @@ use crate::failure::Failure;
 use crate::folder::Folders;
 use crate::settings::spool_limit_of;
 use crate::told::Told;
-use relay_keeper::Keeping;
+use relay_keeper::{Accounted, Naming, RelaySender};
 use spool::{Opened, Spool, SpoolError};
 use spool_device::DeviceError;
 use spool_files::SpoolFolder;
 use std::alloc::Global;
 use std::io::Write;
-use std::sync::{Mutex, Wait};
+use std::sync::{Arc, Mutex, Wait};
 
 /// How many bytes a file of the spool has at most, unless it has a single body. One is read whole,
 /// and has a request's bytes by default. (profile)
@@ -18,6 +18,9 @@ const SEGMENT_BYTES: u64 = 4_194_304;
 
 /// How long a spool that failed isn't opened again, in milliseconds. (profile)
 const BETWEEN_OPENS_MS: u64 = 1_000;
+
+/// What is kept, with the accounts of those who share it, and its lock.
+pub(crate) type Kept<J> = Arc<Mutex<Accounted<J, SpoolFolder>>, Global>;
 
 /// Where a spool is, and how large it may get.
 #[derive(Drop)]
@@ -111,17 +114,18 @@ impl Mender {
 impl Mender {
     /// Opens the spool again where it has failed, at most once a second, and reports that it has
     /// failed, and that it is back.
-    pub(crate) fn mend<R: Wait, L: Write>(
+    pub(crate) fn mend<J: Naming, R: Wait, L: Write>(
         &mut self,
         rt: &R,
-        keeping: &Mutex<Keeping<SpoolFolder>>,
+        sender: &mut RelaySender<J>,
+        kept: &Mutex<Accounted<J, SpoolFolder>>,
         told: &mut Told<L>,
         now_ms: u64,
     ) {
         let Some(place) = &self.place else {
             return;
         };
-        if !keeping.lock(rt).has_failed() {
+        if !sender.has_failed(rt, kept) {
             return;
         }
         let next_ms = match self.next_ms {
@@ -135,11 +139,11 @@ impl Mender {
             return;
         }
         // (the folder is let go before it is opened again: it is locked)
-        let failed = keeping.lock(rt).take_spool();
+        let failed = sender.take_spool(rt, kept);
         drop(failed);
         match place.open(self.alloc) {
             Ok(opened) => {
-                keeping.lock(rt).restore(opened.spool);
+                sender.restore(rt, kept, opened.spool);
                 told.spool_back(opened.damaged_bytes);
                 self.next_ms = None;
             }

@@ -30,3 +30,4 @@ pub use args::RelayArgs;
 pub use folder::Folders;
 pub use names::LostLines;
 pub use program::{Outside, run_relay};
+pub use relay_keeper::RelayBlank;

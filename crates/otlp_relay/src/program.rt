@@ -9,7 +9,7 @@ use crate::collector::collector;
 use crate::course::{Course, Phase};
 use crate::failure::{Failure, tell};
 use crate::folder::Folders;
-use crate::keeping::{Mender, Place, open_first, place_of};
+use crate::keeping::{Kept, Mender, Place, open_first, place_of};
 use crate::lost::lost_names;
 use crate::moments::now_ms;
 use crate::sending::Sending;
@@ -17,8 +17,11 @@ use crate::serving::{Relay, failure_of, serve};
 use crate::settings::{config_of, max_body_of, sends_of, settings_of, stop_ms_of};
 use crate::told::Told;
 use body_names::LostSink;
+use body_sending::BodySender;
 use http_peers::{Dated, Peers, listen};
-use relay_keeper::{Keeping, SharedKeeper, drain};
+use relay_keeper::{
+    Closer, Keeping, Naming, Poster, RelayBlank, RelayParts, RelaySender, SharedKeeper,
+};
 use relay_service::{BodyKeeper, Hosts, NoPieces, RelayService};
 use spool::SpoolError;
 use spool_files::SpoolFolder;
@@ -57,20 +60,26 @@ pub struct Outside<L> {
 /// The answer is the program's status: 0 where it was stopped, and after help or the version, 1 where
 /// it can't listen at the address, open the spool or the file of names, start the thread, wait for
 /// connections or write a line, 2 where the words are bad, 3 where memory was refused.
-pub fn run_relay<R, L, W, F>(
+///
+/// The blank becomes the accounts of this relay, whose name `J` has: a program calls this with
+/// `Brand`.
+pub fn run_relay<J, R, L, W, F>(
     rt: R,
     alloc: Global,
+    blank: RelayBlank,
     outside: Outside<L>,
     words: &[String],
     output: &mut W,
     faults: &mut F,
 ) -> u8
 where
+    J: Naming + Send + Sync + 'static,
     R: Net<Listener = TcpListener, Stream = TcpStream> + Files<File = File> + Threads + Wait,
     R: RandomSource + Clock + Copy + Send + Sync + 'static,
     L: Write + Copy + Send + 'static,
     W: Write,
     F: Write,
+    requires { blank ≡ J.name }
     ensures status { result ≤ 3 }
     ensures quiet { result ≡ 2 → Keeps (W.contents output.old) (W.contents output.new) }
 {
@@ -78,27 +87,30 @@ where
         Ok(args) => args,
         Err(fault) => return fault.tell(output, faults),
     };
-    match relay(rt, alloc, outside, args, output, faults) {
+    match relay::<J, R, L, W, F>(rt, alloc, blank, outside, args, output, faults) {
         Ok(()) => 0,
         Err(failure) => tell(faults, failure),
     }
 }
 
 /// Listens, prints the address, serves and sends until it is stopped, and prints the balance.
-fn relay<R, L, W, F>(
+fn relay<J, R, L, W, F>(
     rt: R,
     alloc: Global,
+    blank: RelayBlank,
     outside: Outside<L>,
     mut args: RelayArgs,
     output: &mut W,
     faults: &mut F,
 ) -> Result<(), Failure>
 where
+    J: Naming + Send + Sync + 'static,
     R: Net<Listener = TcpListener, Stream = TcpStream> + Files<File = File> + Threads + Wait,
     R: RandomSource + Clock + Copy + Send + Sync + 'static,
     L: Write + Copy + Send + 'static,
     W: Write,
     F: Write,
+    requires { blank ≡ J.name }
 {
     let asked = SocketAddr::new(args.address, args.port);
     let (listener, address) = match listen(&rt, asked) {
@@ -111,8 +123,13 @@ where
         log,
     } = outside;
     let place = place_of(folders, &mut args);
-    let keeping = keep(&rt, alloc, place.as_ref(), &args, faults)?;
-    let service = service_of(rt, alloc, &keeping, place.is_some(), &args, address)?;
+    let LockedParts {
+        kept,
+        poster,
+        sender,
+        closer,
+    } = open_parts::<J, R, F>(&rt, alloc, blank, place.as_ref(), &args, faults)?;
+    let service = service_of(rt, alloc, &kept, poster, place.is_some(), &args, address)?;
     let peers = match Peers::new(rt, alloc, listener, settings_of(&args)) {
         Ok(peers) => peers,
         Err(end) => return Err(failure_of(end)),
@@ -121,26 +138,40 @@ where
     let _ = peers.watch(input);
     print_address(alloc, address, output)?;
     let mender = Mender::new(alloc, place);
+    let outgoing = Outgoing {
+        sender,
+        closer,
+        mender,
+    };
     let run = Run {
         rt,
         alloc,
-        keeping,
+        kept,
         log,
     };
-    run.serve_and_send(args, mender, peers, service, output, faults)
+    run.serve_and_send(args, outgoing, peers, service, output, faults)
+}
+
+/// What hands on what is kept, what gives it up in the end, and what opens the spool again.
+#[derive(Drop)]
+struct Outgoing<J: Naming> {
+    sender: RelaySender<J>,
+    closer: Closer<J>,
+    mender: Mender,
 }
 
 /// What a run has all the time.
 #[derive(Drop)]
-struct Run<R, L> {
+struct Run<J: Naming, R, L> {
     rt: R,
     alloc: Global,
-    keeping: Kept,
+    kept: Kept<J>,
     log: L,
 }
 
-impl<R, L> Run<R, L>
+impl<J, R, L> Run<J, R, L>
 where
+    J: Naming + Send + Sync + 'static,
     R: Net<Listener = TcpListener, Stream = TcpStream> + Files<File = File> + Threads + Wait,
     R: RandomSource + Clock + Copy + Send + Sync + 'static,
     L: Write + Copy + Send + 'static,
@@ -150,9 +181,9 @@ where
     fn serve_and_send<W, F>(
         self,
         args: RelayArgs,
-        mender: Mender,
+        outgoing: Outgoing<J>,
         peers: Peers<R, NoPieces>,
-        mut service: Relay<SharedKeeper<R, SpoolFolder>, R>,
+        mut service: Relay<SharedKeeper<J, R, SpoolFolder>, R>,
         output: &mut W,
         faults: &mut F,
     ) -> Result<(), Failure>
@@ -166,7 +197,12 @@ where
         let Ok(course) = Course::new(alloc) else {
             return Err(Failure::OutOfMemory);
         };
-        let thread = self.start(args, mender, &course)?;
+        let Outgoing {
+            sender,
+            mut closer,
+            mender,
+        } = outgoing;
+        let thread = self.start(args, sender, mender, &course)?;
         let served = serve(rt, alloc, peers, &mut service, faults, stop_ms);
         let end_ms = match &served {
             Ok(end_ms) => *end_ms,
@@ -175,7 +211,7 @@ where
         course.enter(Phase::Emptying);
         wait_for_end(&rt, &course, end_ms);
         course.enter(Phase::Over);
-        end_sending(&rt, thread, &course, &self.keeping, &mut names);
+        self.end_sending(thread, &course, &mut closer, &mut names);
         tell_unwritten(faults, names.unwritten());
         print_balance(output, &service.service.keeper().report())?;
         match served {
@@ -188,74 +224,128 @@ where
     fn start(
         &self,
         args: RelayArgs,
+        sender: RelaySender<J>,
         mender: Mender,
         course: &Course,
     ) -> Result<JoinHandle<()>, Failure> {
         let (rt, alloc) = (self.rt, self.alloc);
         let names = lost_names(&rt, alloc, args.names.as_ref(), self.log)?;
-        let (config, linger_ms) = (sends_of(&args), args.linger_ms);
-        let RelayArgs { target, .. } = args;
-        let (Ok(keeping), Ok(course)) = (Arc::try_clone(&self.keeping), course.try_clone()) else {
+        let (Ok(kept), Ok(course)) = (Arc::try_clone(&self.kept), course.try_clone()) else {
             return Err(Failure::OutOfMemory);
         };
-        let exporter = collector(rt, alloc, target);
-        let told = Told::new(self.log);
-        let sending = Sending::new(
-            rt, alloc, keeping, exporter, names, told, mender, course, config, linger_ms,
-        );
+        let linger_ms = args.linger_ms;
+        let RelayArgs { target, .. } = args;
+        let sending = Sending {
+            rt,
+            kept,
+            sender,
+            exporter: collector(rt, alloc, target),
+            names,
+            told: Told::new(self.log),
+            mender,
+            course,
+            linger_ms,
+        };
         sending.start(&rt)
+    }
+
+    /// Ends the thread that sends, once the run is over, and names what is lost. A batch that is
+    /// with the exporter isn't waited for: without a spool it is lost, and with one it is sent
+    /// again, so what comes of it is noted nowhere.
+    fn end_sending<S: LostSink>(
+        &self,
+        thread: JoinHandle<()>,
+        course: &Course,
+        closer: &mut Closer<J>,
+        names: &mut S,
+    ) {
+        let rt = self.rt;
+        if !course.is_sending() {
+            thread.join(&rt);
+            closer.drain(&rt, &self.kept, names);
+            return;
+        }
+        closer.drain(&rt, &self.kept, names);
+        if course.is_sending() {
+            drop(thread);
+        } else {
+            thread.join(&rt);
+        }
     }
 }
 
-/// What is kept, and its lock.
-type Kept = Arc<Mutex<Keeping<SpoolFolder>>, Global>;
+/// The parts of a relay, what is kept under its lock.
+#[derive(Drop)]
+struct LockedParts<J: Naming> {
+    kept: Kept<J>,
+    poster: Poster<J>,
+    sender: RelaySender<J>,
+    closer: Closer<J>,
+}
 
-/// Opens the spool, if there is one: what is kept then. The first bodies that wait have to have room
-/// in memory.
-fn keep<R, F>(
+/// Opens the spool, if there is one: the parts of the relay then. The first bodies that wait have
+/// to have room in memory.
+fn open_parts<J, R, F>(
     rt: &R,
     alloc: Global,
+    blank: RelayBlank,
     place: Option<&Place>,
     args: &RelayArgs,
     faults: &mut F,
-) -> Result<Kept, Failure>
+) -> Result<LockedParts<J>, Failure>
 where
+    J: Naming,
     R: Wait,
     F: Write,
+    requires { blank ≡ J.name }
 {
     let spool = open_first(alloc, place, faults)?;
     let keeping = Keeping::new(alloc, config_of(args), spool);
-    let Ok(keeping) = Arc::new(alloc, Mutex::new(keeping)) else {
+    let sender = BodySender::new(alloc, sends_of(args));
+    let RelayParts {
+        kept,
+        poster,
+        mut sender,
+        closer,
+    } = RelayParts::<J, SpoolFolder>::new(blank, keeping, sender);
+    let Ok(kept) = Arc::new(alloc, Mutex::new(kept)) else {
         return Err(Failure::OutOfMemory);
     };
-    let refilled = keeping.lock(rt).refill();
+    let refilled = sender.refill(rt, &kept);
     match refilled {
         Err(SpoolError::Full) => Err(Failure::LargeBody),
         // (what can't be read now is read when it is to be sent)
-        _ => Ok(keeping),
+        _ => Ok(LockedParts {
+            kept,
+            poster,
+            sender,
+            closer,
+        }),
     }
 }
 
 /// The service, which listens at this address. The posts of a round are kept with one sync, where
 /// they are kept in a spool.
-fn service_of<R>(
+fn service_of<J, R>(
     rt: R,
     alloc: Global,
-    keeping: &Kept,
+    kept: &Kept<J>,
+    poster: Poster<J>,
     is_spooled: bool,
     args: &RelayArgs,
     address: SocketAddr,
-) -> Result<Relay<SharedKeeper<R, SpoolFolder>, R>, Failure>
+) -> Result<Relay<SharedKeeper<J, R, SpoolFolder>, R>, Failure>
 where
+    J: Naming,
     R: Copy,
 {
-    let Ok(keeping) = Arc::try_clone(keeping) else {
+    let Ok(kept) = Arc::try_clone(kept) else {
         return Err(Failure::OutOfMemory);
     };
     let Ok(hosts) = Hosts::new(alloc, address.ip(), address.port(), args.hosts.as_slice()) else {
         return Err(Failure::OutOfMemory);
     };
-    let keeper = SharedKeeper::new(rt, alloc, keeping, is_spooled);
+    let keeper = SharedKeeper::new(rt, alloc, kept, poster, is_spooled);
     let service = RelayService::new(alloc, keeper, hosts, max_body_of(args));
     Ok(Dated::new(alloc, service, rt))
 }
@@ -269,33 +359,6 @@ fn wait_for_end<R: Clock>(rt: &R, course: &Course, end_ms: u64) {
             return;
         }
         thread::sleep(rt, Duration::from_millis(LOOK_MS));
-    }
-}
-
-/// Ends the thread that sends, once the run is over, and names what is lost. A batch that is with the
-/// exporter isn't waited for: without a spool it is lost, and with one it is sent again, so what comes
-/// of it is noted nowhere.
-fn end_sending<R, S>(
-    rt: &R,
-    thread: JoinHandle<()>,
-    course: &Course,
-    keeping: &Mutex<Keeping<SpoolFolder>>,
-    names: &mut S,
-)
-where
-    R: Threads + Wait,
-    S: LostSink,
-{
-    if !course.is_sending() {
-        thread.join(rt);
-        drain(rt, keeping, names);
-        return;
-    }
-    drain(rt, keeping, names);
-    if course.is_sending() {
-        drop(thread);
-    } else {
-        thread.join(rt);
     }
 }
 

@@ -2,21 +2,18 @@
 
 use crate::course::{Course, Phase};
 use crate::failure::Failure;
-use crate::keeping::Mender;
+use crate::keeping::{Kept, Mender};
 use crate::moments::{now_ms, now_ns};
 use crate::told::Told;
 use body_names::LostSink;
-use body_sending::{BodySender, SendConfig};
 use http_exporter::ReportsFailure;
-use relay_keeper::{Keeping, Tried, finish, try_next};
+use relay_keeper::{Naming, RelaySender, Tried};
 use retry_core::Outcome;
 use span_exporter::Exporter;
 use spool::SpoolError;
-use spool_files::SpoolFolder;
-use std::alloc::Global;
 use std::io::Write;
 use std::random::RandomSource;
-use std::sync::{Arc, Mutex, Wait};
+use std::sync::Wait;
 use std::thread::{self, JoinHandle, Threads};
 use std::time::{Clock, Duration};
 
@@ -26,51 +23,25 @@ const STEP_MS: u64 = 50;
 /// A millisecond, in nanoseconds.
 const MS: u64 = 1_000_000;
 
-/// What the thread that sends has: what is kept, the exporter that it hands that to, and what the
-/// names of lost spans are given to.
+/// What the thread that sends has: what is kept, what takes batches from there, the exporter that
+/// it hands them to, and what the names of lost spans are given to. Where it finds nothing to send
+/// it waits for `linger_ms` milliseconds.
 #[derive(Drop)]
-pub(crate) struct Sending<R, E, S, L> {
-    rt: R,
-    keeping: Arc<Mutex<Keeping<SpoolFolder>>, Global>,
-    exporter: E,
-    names: S,
-    told: Told<L>,
-    mender: Mender,
-    course: Course,
-    sender: BodySender,
-    linger_ms: u64,
+pub(crate) struct Sending<J: Naming, R, E, S, L> {
+    pub(crate) rt: R,
+    pub(crate) kept: Kept<J>,
+    pub(crate) sender: RelaySender<J>,
+    pub(crate) exporter: E,
+    pub(crate) names: S,
+    pub(crate) told: Told<L>,
+    pub(crate) mender: Mender,
+    pub(crate) course: Course,
+    pub(crate) linger_ms: u64,
 }
 
-impl<R, E, S, L> Sending<R, E, S, L> {
-    /// It has sent nothing. Where it finds nothing to send it waits for `linger_ms` milliseconds.
-    pub(crate) fn new(
-        rt: R,
-        alloc: Global,
-        keeping: Arc<Mutex<Keeping<SpoolFolder>>, Global>,
-        exporter: E,
-        names: S,
-        told: Told<L>,
-        mender: Mender,
-        course: Course,
-        config: SendConfig,
-        linger_ms: u64,
-    ) -> Sending<R, E, S, L> {
-        Sending {
-            rt,
-            keeping,
-            exporter,
-            names,
-            told,
-            mender,
-            course,
-            sender: BodySender::new(alloc, config),
-            linger_ms,
-        }
-    }
-}
-
-impl<R, E, S, L> Sending<R, E, S, L>
+impl<J, R, E, S, L> Sending<J, R, E, S, L>
 where
+    J: Naming + Send + Sync + 'static,
     R: Threads + Wait + Clock + RandomSource + Copy + Send + 'static,
     E: Exporter + ReportsFailure + Send + Drop + 'static,
     S: LostSink + Send + Drop + 'static,
@@ -94,8 +65,9 @@ fn random_word<R: RandomSource>(rt: &R) -> u64 {
     }
 }
 
-impl<R, E, S, L> Sending<R, E, S, L>
+impl<J, R, E, S, L> Sending<J, R, E, S, L>
 where
+    J: Naming,
     R: Wait + Clock + RandomSource + Copy,
     E: Exporter + ReportsFailure,
     S: LostSink,
@@ -146,7 +118,7 @@ where
 
     /// Whether nothing is kept. (A file of the spool is read only where something is.)
     fn is_empty(&self) -> bool {
-        self.keeping.lock(&self.rt).report().bodies.kept == 0
+        self.kept.lock(&self.rt).report().bodies.kept == 0
     }
 
     /// Hands the next batch to the exporter, unless the run is over: who ends it sees that a batch is
@@ -157,13 +129,8 @@ where
             Tried::Nothing
         } else {
             let now = now_ns(&self.rt);
-            try_next(
-                &self.rt,
-                &self.keeping,
-                &mut self.sender,
-                &mut self.exporter,
-                now,
-            )
+            self.sender
+                .try_next(&self.rt, &self.kept, &mut self.exporter, now)
         };
         self.course.set_sending(false);
         tried
@@ -172,14 +139,9 @@ where
     /// Judges the outcome of the last attempt.
     fn judge(&mut self) {
         let (now, word) = (now_ns(&self.rt), random_word(&self.rt));
-        let _ = finish(
-            &self.rt,
-            &self.keeping,
-            &mut self.sender,
-            now,
-            word,
-            &mut self.names,
-        );
+        let _ = self
+            .sender
+            .finish(&self.rt, &self.kept, now, word, &mut self.names);
     }
 
     /// Reports an outcome that isn't a full success.
@@ -198,8 +160,7 @@ where
     /// Opens the spool again, where it has failed.
     fn mend(&mut self) {
         let now = now_ms(&self.rt);
-        self.mender
-            .mend(&self.rt, &self.keeping, &mut self.told, now);
+        self.mender.mend(&self.rt, &mut self.sender, &self.kept, &mut self.told, now);
     }
 
     /// Waits for bodies, unless no more posts are taken.

@@ -2,8 +2,9 @@
 //! collector.
 #![tactic(auto)]
 
-use otlp_relay::{Folders, Outside, run_relay};
+use otlp_relay::{Folders, Outside, RelayBlank, run_relay};
 use std::io::BufWriter;
+use std::marker::Brand;
 use std::process::ExitCode;
 use std::{env, io};
 
@@ -22,7 +23,15 @@ fn main(rt: HostRuntime) -> io::Result<ExitCode> {
         input: INPUT,
         log: rt.stderr(),
     };
-    let words = words.as_slice();
-    let status = run_relay(rt, rt.alloc(), outside, words, &mut output, &mut faults);
+    // `Brand` stands for the name of this one relay, which the types of its accounts have.
+    let status = run_relay::<Brand, _, _, _, _>(
+        rt,
+        rt.alloc(),
+        RelayBlank::new(),
+        outside,
+        words.as_slice(),
+        &mut output,
+        &mut faults,
+    );
     Ok(ExitCode::from(status))
 }
