@@ -267,7 +267,7 @@ impl<J: Naming, D: Device> Accounted<J, D> {
     }
 
     /// What became of what was kept.
-    pub(crate) fn report(&self) -> Report
+    pub fn report(&self) -> Report
         ensures { ReportsInHold D result }
     {
         self.keeping.report()
