@@ -60,10 +60,9 @@ sum-ways f (x ∷ ended) =
 -- ---- the balance
 
 balance-of : (desk : BodyDesk) (spooled closed : Bool) (p : List (List ℕ)) (s : Sent)
-    (g : Option (List (List ℕ))) → Agrees desk spooled closed p s g → Balances p s g
+    (g : Option (List (List ℕ))) → Agrees desk spooled closed p s g → Balances spooled p s g
 balance-of desk spooled closed p s g a = record {
   desk = desk;
-  is_spooled = spooled;
   is_closed = closed;
   agrees = a;
   spans = λ is_it.
@@ -84,7 +83,7 @@ balance-of desk spooled closed p s g a = record {
 pub balances : (desk : BodyDesk) (spooled closed : Bool) (book : List Said) (p s c : Said)
     → AreKnown desk spooled closed book → p ≡ posts (posted_in p) → s ≡ sends (sent_in s)
     → c ≡ closes (closed_in c) → Contains book p → Contains book s → Contains book c
-    → Balances (posted_in p) (sent_in s) (closed_in c)
+    → Balances spooled (posted_in p) (sent_in s) (closed_in c)
 balances desk spooled closed book p s c k is-p is-s is-c in-p in-s in-c =
     let all = three k.posted k.sent k.gave in
     let first : posted_in p ≡ k.posted =

@@ -8,7 +8,7 @@ use Rattle.model_body.specs.Desks.{BodyDesk}
 
 -- What a sender knows: where its last batch is, and the bodies of that while it is out or is to be
 -- sent again; the bodies that were read from the spool to be sent; those that ended, each with how;
--- and those that were read and are to be read again, since the spool was opened again.
+-- and those that went back to the spool where it was opened again, once for each time.
 pub record Sent : Type 0 where
   pub turn : Turn
   pub batch : List (List ℕ)

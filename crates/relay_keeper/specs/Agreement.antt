@@ -16,8 +16,9 @@ batch_by again bodies = bodies
 abbrev pub came_of : Bool → List (List ℕ) → Sent → List (List ℕ)
 came_of is_spooled posted sent = if is_spooled then sent.read else posted
 
--- Each body that came to the desk ended, or is to be read again, or was given up, or is kept there,
--- each as often as it came: whatever of them is added up, both sides are as much.
+-- Each body that came to the desk ended, or went back to the spool, or was given up, or is kept
+-- there, as often as it came. As lists without order both sides are the same: any sum over them is
+-- equal.
 abbrev pub AddsUp : List (List ℕ) → Sent → List (List ℕ) → List (List ℕ) → Type 0
 AddsUp came sent gave kept =
     (f : List ℕ → ℕ) → sum_by f came

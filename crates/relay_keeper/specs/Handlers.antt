@@ -142,8 +142,8 @@ pub record Finishes (now word : ℕ) (old : Handler) (next : Next) (new : Handle
 
 -- ---- the spool
 
--- The spool was given back: what the desk had is to be read again, and the batch in hand was
--- forgotten. Without a spool nothing was changed.
+-- The spool was given back: what the desk had went back to it, to be read again, and the batch in
+-- hand was forgotten.
 pub record IsRestored (old : Sender) (said : Said) (new : Sender) (said' : Said) : Type 0 where
   pub bodies : List (List ℕ)
   pub sender : new ≡ forgotten old

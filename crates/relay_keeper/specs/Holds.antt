@@ -26,7 +26,7 @@ pub record LacksInHold {D : Type 0} (known : Type 0) (files : D → Disk) (body 
   pub full : kept.is_spooled ≡ true → known
       → (kept.desk.config.memory_bytes < body_size body) ⊎ IsFull files body kept.spool
 
--- In a hold, a spool that failed was met, or it failed.
+-- In a hold, a spool that failed was met, or it failed, or all bodies had been given up.
 pub record FailsInHold (D : Type 0) : Type 0 where
   pub old : Kept D
   pub new : Kept D

@@ -12,6 +12,7 @@ ghost use Rattle.relay_keeper.specs.Accounts.{posts, sends, sent_in};
 ghost use Rattle.relay_keeper.specs.Agreement.{AreKnown};
 ghost use Rattle.relay_keeper.specs.Balances.{Balances};
 ghost use Rattle.relay_keeper.specs.Handlers.{GaveUp, IsNoted, Reads, Restores, TakesBatch};
+ghost use Rattle.relay_keeper.specs.Kept.{Admits, Puts};
 ghost use Rattle.relay_keeper.specs.Holds.{FailsInHold, KeepsInHold, LacksInHold, ReportsInHold};
 ghost use Rattle.relay_keeper.specs.Together.{AreKept};
 
@@ -76,6 +77,10 @@ impl<J: Naming, D: Device> Accounted<J, D> {
         requires { account.old ≡ posts (posted_in account.old) }
         ensures kept { OnOk result
             (KeepsInHold D.is_known D.files D.moment D.left_at body.items) }
+        ensures admitted { OnOk result (self.old.is_spooled ≡ false
+            → Admits body.items spans self.old self.new) }
+        ensures put { OnOk result (self.old.is_spooled ≡ true → D.is_known
+            → Puts D.files D.moment D.left_at body.items self.old.spool self.new.spool) }
         ensures posted { OnOk result (account.new ≡ after_posts (body.items ∷ []) account.old) }
         ensures full { IsErrOf result KeepFault.Full → LacksInHold D.is_known D.files body.items }
         ensures failed { IsErrOf result KeepFault.Failed → FailsInHold D }
@@ -233,17 +238,19 @@ impl<J: Naming, D: Device> Accounted<J, D> {
             .record::<Snapshot<Keeping<D>>, Returning>(account, &seen);
     }
 
-    /// What three accounts say is so of what is kept. Nothing is changed.
+    /// What three accounts say is so of what is kept. Nothing is changed. Answers whether bodies are
+    /// kept in a spool.
     pub(crate) fn balance(
         &mut self,
         poster: &mut Account<J>,
         sender: &mut Account<J>,
         closer: &mut Account<J>,
-    )
+    ) -> bool
         requires poster { poster.old ≡ posts (posted_in poster.old) }
         requires sender { sender.old ≡ sends (sent_in sender.old) }
         requires closer { closer.old ≡ closes (closed_in closer.old) }
-        ensures balance { Balances (posted_in poster.old) (sent_in sender.old)
+        ensures spooled { result ≡ self.old.is_spooled }
+        ensures balance { Balances result (posted_in poster.old) (sent_in sender.old)
             (closed_in closer.old) }
         ensures poster { poster.new ≡ poster.old }
         ensures sender { sender.new ≡ sender.old }
@@ -252,6 +259,7 @@ impl<J: Naming, D: Device> Accounted<J, D> {
         self.book.recognize(poster);
         self.book.recognize(sender);
         self.book.recognize(closer);
+        self.keeping.is_spooled()
     }
 
     /// Whether the spool failed, and wasn't opened again.

@@ -107,18 +107,20 @@ impl<J: Naming, R, D: Device> SharedKeeper<J, R, D> {
 }
 
 impl<J: Naming, R: Wait, D: Device> SharedKeeper<J, R, D> {
-    /// Shows what became of all bodies that were kept through this keeper, for every interleaving
-    /// of its calls with those of the sender and of what gives bodies up: each is delivered, lost
-    /// by name, given up by name, or kept, and as often. Nothing is changed. (OTLP Specification,
-    /// "OTLP/HTTP Response"; profile)
-    pub fn balance(&mut self, sender: &mut RelaySender<J>, closer: &mut Closer<J>)
-        ensures balance { Balances self.old.posted sender.old.sent closer.old }
+    /// Shows what became of the bodies that came to memory, for every interleaving of the calls of
+    /// this keeper, of the sender and of what gives bodies up: without a spool those that were kept
+    /// through this keeper, with one those that the sender read. Each was delivered, lost by name,
+    /// given up by name or went back to the spool, or is kept in memory, as often as it came. The
+    /// answer is whether there is a spool. Nothing is changed. (OTLP Specification, "OTLP/HTTP
+    /// Response"; profile)
+    pub fn balance(&mut self, sender: &mut RelaySender<J>, closer: &mut Closer<J>) -> bool
+        ensures balance { Balances result self.old.posted sender.old.sent closer.old }
         ensures keeper { self.new ≡ self.old }
         ensures sender { sender.new ≡ sender.old }
         ensures closer { closer.new ≡ closer.old }
     {
         let mut hold = self.kept.lock(&self.rt);
-        hold.balance(&mut self.account, &mut sender.account, &mut closer.account);
+        hold.balance(&mut self.account, &mut sender.account, &mut closer.account)
     }
 }
 

@@ -199,7 +199,7 @@ impl<J: Naming> RelaySender<J> {
     /// Takes the spool out, to open it again where it has failed. Until it is given back nothing is
     /// kept, and what is in memory is handed on.
     pub fn take_spool<R: Wait, D: Device>(
-        &mut self,
+        &self,
         rt: &R,
         kept: &Mutex<Accounted<J, D>>,
     ) -> Option<Spool<D>> {
