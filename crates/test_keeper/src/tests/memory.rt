@@ -95,7 +95,8 @@ fn refuse<J: Naming, R: Wait + Abort + Copy>(rt: R, alloc: Global, blank: RelayB
     assert_equal(&rt, names.len(), 1);
     assert_equal(&rt, relay.keep(&FIRST), Ok(()));
     relay.drain();
-    relay.keeper.balance(&mut relay.sender, &mut relay.closer);
+    let is_spooled = relay.keeper.balance(&mut relay.sender, &mut relay.closer);
+    assert_equal(&rt, is_spooled, false);
     assert_equal(&rt, relay.amounts(), (amounts(3, 1, 2), amounts(3, 1, 2)));
 }
 
