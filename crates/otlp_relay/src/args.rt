@@ -33,7 +33,7 @@ pub struct RelayArgs {
     /// `--batch-bytes`: how many bytes a request to the collector has at most, unless it is a single
     /// body, 1 to 1 GiB, 4 MiB by default.
     pub batch_bytes: u64,
-    /// `--linger`: how long it waits for bodies where none is there, 1 to 60,000 ms, 200 by default.
+    /// `--linger`: how long it waits for more bodies at most, 1 to 60,000 ms, 200 by default.
     pub linger_ms: u64,
     /// `--names`: the file to which the names of lost spans are appended. Without it they go to
     /// standard error.
@@ -92,7 +92,7 @@ const NUMBERS: [NumberOption<'static>; 9] = [
         least: 1,
         most: 60_000,
         default: 200,
-        help: "How long it waits for bodies where none is there [default: 200]",
+        help: "How long it waits for more bodies at most [default: 200]",
     },
     NumberOption {
         name: "stop-within",

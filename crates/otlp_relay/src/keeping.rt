@@ -12,9 +12,9 @@ use std::alloc::Global;
 use std::io::Write;
 use std::sync::{Arc, Mutex, Wait};
 
-/// How many bytes a file of the spool has at most, unless it has a single body. One is read whole,
-/// and has a request's bytes by default. (profile)
-const SEGMENT_BYTES: u64 = 4_194_304;
+/// How many bytes a file of the spool has at most, unless it has a single body. One is read whole
+/// while posts wait for the lock. (profile)
+pub(crate) const SEGMENT_BYTES: u64 = 1_048_576;
 
 /// How long a spool that failed isn't opened again, in milliseconds. (profile)
 const BETWEEN_OPENS_MS: u64 = 1_000;
@@ -112,6 +112,11 @@ impl Mender {
 }
 
 impl Mender {
+    /// Whether there is a spool.
+    pub(crate) fn is_spooled(&self) -> bool {
+        self.place.is_some()
+    }
+
     /// Opens the spool again where it has failed, at most once a second, and reports that it has
     /// failed, and that it is back.
     pub(crate) fn mend<J: Naming, R: Wait, L: Write>(

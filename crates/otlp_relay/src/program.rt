@@ -14,7 +14,7 @@ use crate::lost::lost_names;
 use crate::moments::now_ms;
 use crate::sending::Sending;
 use crate::serving::{Relay, failure_of, serve};
-use crate::settings::{config_of, max_body_of, sends_of, settings_of, stop_ms_of};
+use crate::settings::{config_of, enough_of, max_body_of, sends_of, settings_of, stop_ms_of};
 use crate::told::Told;
 use body_names::LostSink;
 use body_sending::BodySender;
@@ -233,7 +233,7 @@ where
         let (Ok(kept), Ok(course)) = (Arc::try_clone(&self.kept), course.try_clone()) else {
             return Err(Failure::OutOfMemory);
         };
-        let linger_ms = args.linger_ms;
+        let (linger_ms, enough) = (args.linger_ms, enough_of(&args, mender.is_spooled()));
         let RelayArgs { target, .. } = args;
         let sending = Sending {
             rt,
@@ -245,6 +245,9 @@ where
             mender,
             course,
             linger_ms,
+            enough,
+            received: 0,
+            bytes: 0,
         };
         sending.start(&rt)
     }

@@ -8,6 +8,7 @@ use crate::told::Told;
 use body_names::LostSink;
 use http_exporter::ReportsFailure;
 use relay_keeper::{Naming, RelaySender, Tried};
+use relay_service::Report;
 use retry_core::Outcome;
 use span_exporter::Exporter;
 use spool::SpoolError;
@@ -24,8 +25,9 @@ const STEP_MS: u64 = 50;
 const MS: u64 = 1_000_000;
 
 /// What the thread that sends has: what is kept, what takes batches from there, the exporter that
-/// it hands them to, and what the names of lost spans are given to. Where it finds nothing to send
-/// it waits for `linger_ms` milliseconds.
+/// it hands them to, and what the names of lost spans are given to. Where it finds nothing to send,
+/// or what is kept has just come, it waits for `linger_ms` milliseconds at most, until `enough`
+/// bytes more are kept.
 #[derive(Drop)]
 pub(crate) struct Sending<J: Naming, R, E, S, L> {
     pub(crate) rt: R,
@@ -37,6 +39,11 @@ pub(crate) struct Sending<J: Naming, R, E, S, L> {
     pub(crate) mender: Mender,
     pub(crate) course: Course,
     pub(crate) linger_ms: u64,
+    pub(crate) enough: u64,
+    // How many bodies had been received when a batch was looked for last, and how many bytes took
+    // what was kept.
+    pub(crate) received: u64,
+    pub(crate) bytes: u64,
 }
 
 impl<J, R, E, S, L> Sending<J, R, E, S, L>
@@ -93,6 +100,7 @@ where
             Tried::Came(outcome) => {
                 self.tell(outcome);
                 self.judge();
+                self.gather();
             }
             Tried::Unjudged => self.judge(),
             Tried::Early(from) => self.wait_until(from),
@@ -116,16 +124,25 @@ where
         self.pause();
     }
 
-    /// Whether nothing is kept. (A file of the spool is read only where something is.)
-    fn is_empty(&self) -> bool {
-        self.kept.lock(&self.rt).report().bodies.kept == 0
+    /// What became of what was kept.
+    fn report(&self) -> Report {
+        self.kept.lock(&self.rt).report()
+    }
+
+    /// Looks at what is kept: whether there is nothing. It notes how many bodies were received until
+    /// now. (A file of the spool is read only where something is kept.)
+    fn finds_nothing(&mut self) -> bool {
+        let report = self.report();
+        self.received = report.bodies.received;
+        self.bytes = report.waiting_bytes;
+        report.bodies.kept == 0
     }
 
     /// Hands the next batch to the exporter, unless the run is over: who ends it sees that a batch is
     /// with the exporter, or this thread sees that it is over.
     fn try_next(&mut self) -> Tried {
         self.course.set_sending(true);
-        let tried = if self.course.phase() == Phase::Over || self.is_empty() {
+        let tried = if self.course.phase() == Phase::Over || self.finds_nothing() {
             Tried::Nothing
         } else {
             let now = now_ns(&self.rt);
@@ -163,13 +180,27 @@ where
         self.mender.mend(&self.rt, &mut self.sender, &self.kept, &mut self.told, now);
     }
 
-    /// Waits for bodies, unless no more posts are taken.
+    /// Waits for more bodies where all that are kept came since a batch was looked for last. Where
+    /// some waited already, as when others are left in the spool or each is to be sent alone, none
+    /// is held up.
+    fn gather(&mut self) {
+        let bodies = self.report().bodies;
+        if bodies.kept <= bodies.received.saturating_sub(self.received) {
+            self.linger();
+        }
+    }
+
+    /// Waits for bodies, unless enough for a batch came since one was looked for last, or no more
+    /// posts are taken. (Bytes are compared with those of that moment, since the files of a spool
+    /// have bodies that were delivered, too.)
     fn linger(&mut self) {
-        for _ in 0..self.linger_ms.div_ceil(STEP_MS) {
-            if self.course.phase() != Phase::Serving {
+        for index in 0..self.linger_ms.div_ceil(STEP_MS) {
+            let more = self.report().waiting_bytes.saturating_sub(self.bytes);
+            if more >= self.enough || self.course.phase() != Phase::Serving {
                 return;
             }
-            self.step(self.linger_ms.min(STEP_MS));
+            let past = index.saturating_mul(STEP_MS);
+            self.step(self.linger_ms.saturating_sub(past).min(STEP_MS));
         }
     }
 

@@ -2,6 +2,7 @@
 ghost use Rattle.std.specs.Prelude.{◌≡◌, ◌≤◌, ◌*◌, ◌-◌, min};
 
 use crate::args::RelayArgs;
+use crate::keeping::SEGMENT_BYTES;
 use body_desk::BodyConfig;
 use body_sending::SendConfig;
 use http_peers::Settings;
@@ -72,6 +73,19 @@ pub(crate) fn spool_limit_of(args: &RelayArgs) -> u64
     ensures { args.now.spool_mb ≤ 1_048_576 → result ≡ args.now.spool_mb * 1_048_576 }
 {
     args.spool_mb.saturating_mul(MIB)
+}
+
+/// So many bytes are enough for a batch, so that no other bodies are waited for: as many as it has
+/// at most, with a spool those of a file, or half of those that there is room for.
+pub(crate) fn enough_of(args: &RelayArgs, is_spooled: bool) -> u64
+    ensures { result ≤ args.now.batch_bytes }
+{
+    let room = args.memory_mb.saturating_mul(MIB) / 2;
+    let most = args.batch_bytes.min(room);
+    if !is_spooled {
+        return most;
+    }
+    most.min(SEGMENT_BYTES).min(spool_limit_of(args) / 2)
 }
 
 /// For how many milliseconds it hands on once it is stopped.
