@@ -9,3 +9,4 @@ pub mod Accounts
 pub mod Agreement
 pub mod Handlers
 pub mod Balances
+pub mod Examples

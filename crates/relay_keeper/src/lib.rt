@@ -21,6 +21,7 @@ mod names;
 mod parts;
 mod sender;
 mod waiting;
+pub mod worked;
 
 pub use account::{RelayBlank, SaidState};
 pub use account_book::Naming;
