@@ -7,7 +7,7 @@ use Rattle.spool_device.specs.Disks.{Disk, grow_last, disk_size}
 use Rattle.spool_device.specs.Crashes.{Appended, LeavesOnly}
 use Rattle.spool.specs.Records.{spelled}
 use Rattle.spool.specs.Spools.{done_to, next_number, waiting, waiting_from, CanGrow}
-use Rattle.spool.specs.Spools.{reserved}
+use Rattle.spool.specs.Spools.{reserved, Rises}
 use Rattle.spool.specs.Spools.{LeftByPut}
 use Rattle.spool.specs.Settled.{IsSame, IsPut, Grows}
 use Rattle.spool.proofs.Moments.{weaker, and_then}
@@ -21,28 +21,32 @@ same-waiting disk left same =
     ap (λ (n : ℕ). waiting_from n left) same.done ∙ same.waits (done_to disk)
 
 -- What means the same is left by a put.
-pub left-by-same : (disk left : Disk) (bs : List (List ℕ)) (limit : ℕ) → IsSame disk left
-    → LeftByPut disk bs limit left
-left-by-same disk left bs limit same = record {
+pub left-by-same : (disk left : Disk) (bs : List (List ℕ)) (limit : ℕ) → Rises disk
+    → IsSame disk left → LeftByPut disk bs limit left
+left-by-same disk left bs limit rises same = record {
   count = 0;
   few = omega arith;
   waits = same-waiting disk left same ∙ sym (append-nil (waiting disk));
   within = omega (arith, same.size);
+  rises = same.rises rises;
 }
 
 -- So are the same files.
-pub left-by-none : (disk left : Disk) (bs : List (List ℕ)) (limit : ℕ) → left ≡ disk
+pub left-by-none : (disk left : Disk) (bs : List (List ℕ)) (limit : ℕ) → Rises disk → left ≡ disk
     → LeftByPut disk bs limit left
-left-by-none disk left bs limit is = left-by-same disk left bs limit (same-refl disk left is)
+left-by-none disk left bs limit rises is =
+    left-by-same disk left bs limit rises (same-refl disk left is)
 
-module _ (disk now : Disk) (same : IsSame disk now) (can : CanGrow now) (bs : List (List ℕ))
-    (more : List ℕ) (next size limit : ℕ) (put : IsPut disk bs more next size limit) where
+module _ (disk now : Disk) (rises : Rises disk) (same : IsSame disk now) (can : CanGrow now)
+    (bs : List (List ℕ)) (more : List ℕ) (next size limit : ℕ)
+    (put : IsPut disk bs more next size limit) where
   -- So is what is left while the records are written.
   pub left-by-put : (left : Disk) → Appended more now left → LeftByPut disk bs limit left
   left-by-put left (k, is) =
       let p =
       put-cut now bs can put.fits limit k
-      (omega (arith, put.size_is, put.within, same.size, ap length put.written)) in
+      (omega (arith, put.size_is, put.within, same.size, ap length put.written))
+      (same.rises rises) in
       let left_is : left ≡ grow_last (take k (spelled (put_contents bs))) now =
       is ∙ ap (λ (l : List ℕ). grow_last (take k l) now) put.written in
       record {
@@ -54,6 +58,7 @@ module _ (disk now : Disk) (same : IsSame disk now) (can : CanGrow now) (bs : Li
             ∙ ap₂ (λ (l : List (ℕ × List ℕ)) (n : ℕ). l ++ enumerate_from n (take p.count bs))
             (same-waiting disk now same) same.next);
         within = omega (arith, p.within, ap disk_size left_is, same.size);
+        rises = subst Rises (sym left_is) p.rises;
       }
 
   -- So is what is left from the beginning of the put on.
@@ -64,7 +69,7 @@ module _ (disk now : Disk) (same : IsSame disk now) (can : CanGrow now) (bs : Li
   put-leaves moment left_at old mid new first second =
       and_then moment left_at old mid new (LeftByPut disk bs limit)
       (weaker moment left_at old mid (IsSame disk) (LeftByPut disk bs limit)
-      (λ left is. left-by-same disk left bs limit is) first)
+      (λ left is. left-by-same disk left bs limit rises is) first)
       (weaker moment left_at mid new (Appended more now) (LeftByPut disk bs limit) left-by-put
       second)
 

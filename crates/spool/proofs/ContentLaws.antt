@@ -1,7 +1,7 @@
 -- What the records of bodies and of notes are read as.
 use Rattle.std.proofs.Common.{◌≡◌, inl, inr, refl, sym, ap, ◌∙◌, ℕ, zero, suc, ◌+◌}
 use Rattle.std.proofs.Common.{◌-◌, ◌^◌}
-use Rattle.std.proofs.Common.{◌<◌, ◌≤◌, List, [], ◌∷◌, ◌++◌, length, drop, map, arith}
+use Rattle.std.proofs.Common.{◌<◌, ◌≤◌, max, List, [], ◌∷◌, ◌++◌, length, drop, map, arith}
 use Rattle.std.proofs.Common.{true, false}
 use Rattle.std.specs.Prelude.{nat_le}
 use Rattle.std.proofs.lemmas.Bool.{cases_lt, le-leb, lt-leb, cond-true}
@@ -85,5 +85,45 @@ drop-numbered d n k (b ∷ bs) le = elim (cases_lt k d) [
             ∙ (sym
             (cond-true (nat_le n k) ((k, b) ∷ numbered_from n others) (numbered_from n others) kept)
             ∙ ap (λ (j : ℕ). numbered_from n (drop j ((k, b) ∷ others))) (sym f)))
+      ]
+]
+
+-- Those with two numbers or higher ones are those with the higher of the two.
+pub numbered-twice : (n d : ℕ) (bs : List (ℕ × List ℕ))
+    → numbered_from n (numbered_from d bs) ≡ numbered_from (max n d) bs
+numbered-twice n d [] = refl
+numbered-twice n d (b ∷ bs) = elim (cases_lt b.0 d) [
+  | inl lt ↦
+      let out : nat_le d b.0 ≡ false = lt-leb d b.0 lt in
+      let also : nat_le (max n d) b.0 ≡ false = lt-leb (max n d) b.0 (omega arith) in
+      ap (numbered_from n)
+      (cond-false (nat_le d b.0) (b ∷ numbered_from d bs) (numbered_from d bs) out)
+      ∙ (numbered-twice n d bs
+      ∙ sym (cond-false (nat_le (max n d) b.0) (b ∷ numbered_from (max n d) bs)
+      (numbered_from (max n d) bs) also))
+  | inr ge ↦
+      let kept : nat_le d b.0 ≡ true = le-leb d b.0 ge in
+      let first =
+      ap (numbered_from n)
+      (cond-true (nat_le d b.0) (b ∷ numbered_from d bs) (numbered_from d bs) kept) in
+      elim (cases_lt b.0 n) [
+        | inl lt ↦
+            let out : nat_le n b.0 ≡ false = lt-leb n b.0 lt in
+            let also : nat_le (max n d) b.0 ≡ false = lt-leb (max n d) b.0 (omega arith) in
+            first
+            ∙ (cond-false (nat_le n b.0) (b ∷ numbered_from n (numbered_from d bs))
+            (numbered_from n (numbered_from d bs)) out
+            ∙ (numbered-twice n d bs
+            ∙ sym (cond-false (nat_le (max n d) b.0) (b ∷ numbered_from (max n d) bs)
+            (numbered_from (max n d) bs) also)))
+        | inr above ↦
+            let in_it : nat_le n b.0 ≡ true = le-leb n b.0 above in
+            let also : nat_le (max n d) b.0 ≡ true = le-leb (max n d) b.0 (omega arith) in
+            first
+            ∙ (cond-true (nat_le n b.0) (b ∷ numbered_from n (numbered_from d bs))
+            (numbered_from n (numbered_from d bs)) in_it
+            ∙ (ap (λ (l : List (ℕ × List ℕ)). b ∷ l) (numbered-twice n d bs)
+            ∙ sym (cond-true (nat_le (max n d) b.0) (b ∷ numbered_from (max n d) bs)
+            (numbered_from (max n d) bs) also)))
       ]
 ]

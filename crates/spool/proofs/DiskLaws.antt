@@ -1,25 +1,25 @@
 -- What the files of a spool mean after a file was made, grew or was removed.
-use Rattle.std.proofs.Common.{◌≡◌, refl, sym, ap, ◌∙◌, ℕ}
+use Rattle.std.proofs.Common.{◌≡◌, refl, sym, ap, ap₂, ◌∙◌, ℕ}
 use Rattle.std.proofs.Common.{◌+◌, ◌-◌}
 use Rattle.std.proofs.Common.{◌≤◌, max, List, [], ◌∷◌, ◌++◌, length, drop, map, arith}
 use Rattle.std.proofs.Common.{cond, true, false}
 use Rattle.std.proofs.Common.{append_assoc, length-append}
-use Rattle.std.specs.Prelude.{flat_map}
+use Rattle.std.specs.Prelude.{flat_map, nat_le}
 use Rattle.std.proofs.lemmas.Bool.{cond-true}
 use Rattle.std.proofs.lemmas.Bool.{cond-false, eqb-true, eq-eqb}
 use Rattle.std.proofs.lemmas.List.{drop-append-le, append-nil, map-append}
 use Rattle.std.proofs.lemmas.List.Concat.{flat_map-append}
-use Rattle.std.proofs.lemmas.List.Elements.{filter_map-append}
+use Rattle.std.proofs.lemmas.List.Elements.{filter-append, filter_map-append}
 use Rattle.std.proofs.lemmas.List.Sums.{sum_by-append}
 use Rattle.std.specs.List.{enumerate_from}
 use Rattle.spool_device.specs.Disks.{SpoolFile, Disk, grown, grow_last, disk_size}
 use Rattle.spool.specs.Records.{contents, rest, bodies, notes}
 use Rattle.spool.specs.Spools.{bodies_in, notes_in, is_whole, end_of, greatest, done_to}
 use Rattle.spool.specs.Spools.{next_number}
-use Rattle.spool.specs.Spools.{waiting_in, waiting_from, CanGrow}
+use Rattle.spool.specs.Spools.{waiting_in, waiting_from, numbered_from, CanGrow}
 use Rattle.spool.proofs.RecordLaws.{read-on, nil-length}
 use Rattle.spool.proofs.ContentLaws.{enumerate-append}
-use Rattle.spool.proofs.ContentLaws.{length-enumerate}
+use Rattle.spool.proofs.ContentLaws.{length-enumerate, drop-numbered, numbered-twice}
 
 -- The greatest of two lists is that of one of them.
 pub greatest-append : (xs ys : List ℕ) → greatest (xs ++ ys) ≡ max (greatest xs) (greatest ys)
@@ -67,6 +67,28 @@ module _ (front : Disk) (last : SpoolFile) where
   -- The sizes, by them.
   pub size-last : disk_size (front ++ last ∷ []) ≡ disk_size front + length last.bytes
   size-last = omega (arith, sum_by-append (λ (f : SpoolFile). length f.bytes) front (last ∷ []))
+
+-- ---- what waits from a number on
+
+-- What waits from a number on, of all bodies.
+waiting-numbered : (n : ℕ) (disk : Disk)
+    → waiting_from n disk ≡ numbered_from n (waiting_from 0 disk)
+unfolding waiting_from waiting_in
+waiting-numbered n [] = refl
+waiting-numbered n (f ∷ disk) =
+    ap₂ (λ (l : List (ℕ × List ℕ)) (k : List (ℕ × List ℕ)). l ++ k)
+    (drop-numbered 0 n f.number (bodies_in f) (omega arith)) (waiting-numbered n disk)
+    ∙ sym (filter-append (λ b. nat_le n b.0)
+    (drop (0 - f.number) (enumerate_from f.number (bodies_in f))) (waiting_from 0 disk))
+
+-- What waits from a number on, of what waits from another on.
+pub numbered-waiting : (n d : ℕ) (disk : Disk)
+    → numbered_from n (waiting_from d disk) ≡ waiting_from (max n d) disk
+numbered-waiting n d disk =
+    ap (numbered_from n) (waiting-numbered d disk)
+    ∙ (numbered-twice n d (waiting_from 0 disk) ∙ sym (waiting-numbered (max n d) disk))
+
+-- ---- whole files
 
 -- A whole file has no bytes that are not read.
 pub whole-rest : (file : SpoolFile) → is_whole file ≡ true → rest file.bytes ≡ []

@@ -1,6 +1,7 @@
 pub mod RecordLaws
 pub mod ContentLaws
 pub mod DiskLaws
+pub mod RiseLaws
 pub mod PutLaws
 pub mod SurveyLaws
 pub mod NoteLaws

@@ -8,7 +8,7 @@ use Rattle.spool_device.specs.Crashes.{Appended, LeavesOnly}
 use Rattle.spool.specs.Records.{note_content, note_size, contents, notes}
 use Rattle.spool.specs.Records.{note_of}
 use Rattle.spool.specs.Spools.{done_to, next_number, waiting, waiting_from, CanGrow}
-use Rattle.spool.specs.Spools.{reserved}
+use Rattle.spool.specs.Spools.{reserved, Rises}
 use Rattle.spool.specs.Spools.{numbered_from, LeftByNote, notes_in, greatest}
 use Rattle.spool.specs.Settled.{IsSame, IsNote, Grows, IsNoted, IsNoLarger, last_done}
 use Rattle.spool.proofs.Moments.{weaker, and_then}
@@ -20,16 +20,23 @@ use Rattle.spool.proofs.DiskLaws.{greatest-append, grow-front, whole-rest}
 use Rattle.spool.proofs.PutLaws.{Noted, note_bytes, note-whole, note-cut, note-size, length-note}
 use Rattle.spool.proofs.PutLaws.{noted-waiting}
 use Rattle.spool.proofs.PutLaws.{last-done-at, last-done-below}
+use Rattle.spool.proofs.RiseLaws.{rises-grown}
 
 -- What means the same is left by a note.
-pub left-by-same : (disk left : Disk) (number : ℕ) → IsSame disk left → LeftByNote disk number left
+pub left-by-same : (disk left : Disk) (number : ℕ) → Rises disk → IsSame disk left
+    → LeftByNote disk number left
 unfolding reserved
-left-by-same disk left number same =
-    record { waits = inl (same-waiting disk left same); within = omega (arith, same.size) }
+left-by-same disk left number rises same = record {
+  waits = inl (same-waiting disk left same);
+  within = omega (arith, same.size);
+  rises = same.rises rises;
+}
 
 -- So are the same files.
-pub left-by-none : (disk left : Disk) (number : ℕ) → left ≡ disk → LeftByNote disk number left
-left-by-none disk left number is = left-by-same disk left number (same-refl disk left is)
+pub left-by-none : (disk left : Disk) (number : ℕ) → Rises disk → left ≡ disk
+    → LeftByNote disk number left
+left-by-none disk left number rises is =
+    left-by-same disk left number rises (same-refl disk left is)
 
 -- Where all below a number is noted already.
 pub noted-before : (disk : Disk) (number : ℕ) → min number (next_number disk) ≤ done_to disk
@@ -58,17 +65,19 @@ left-by-noted disk left number noted is by = record {
     | inr after ↦ inr (after ∙ same-numbered disk number noted is)
   ];
   within = by.within;
+  rises = by.rises;
 }
 
 -- What is left while files are removed after it.
 left-by-removal : (disk : Disk) (number : ℕ) (after left : Disk)
     → disk_size disk + note_size ≤ reserved disk
     → waiting after ≡ numbered_from number (waiting disk)
-    → disk_size after ≡ disk_size disk + note_size → IsNoLarger after left
+    → disk_size after ≡ disk_size disk + note_size → Rises after → IsNoLarger after left
     → LeftByNote disk number left
-left-by-removal disk number after left room waits size no_larger = record {
+left-by-removal disk number after left room waits size rises no_larger = record {
   waits = inr (no_larger.waits ∙ waits);
   within = omega (arith, no_larger.size, size, room);
+  rises = no_larger.rises rises;
 }
 
 -- There is room for a note.
@@ -92,18 +101,19 @@ pub noted-leaves : {D : Type 0} (moment : D → ℕ) (left_at : D → ℕ → Di
     → disk_size disk + note_size ≤ reserved disk
     → LeavesOnly moment left_at old mid (LeftByNote disk noted)
     → waiting after ≡ numbered_from noted (waiting disk)
-    → disk_size after ≡ disk_size disk + note_size
+    → disk_size after ≡ disk_size disk + note_size → Rises after
     → LeavesOnly moment left_at mid new (IsNoLarger after)
     → LeavesOnly moment left_at old new (LeftByNote disk number)
-noted-leaves moment left_at old mid new disk after number noted is room first waits sized second =
+noted-leaves moment left_at old mid new disk after number noted is room first waits sized rises
+    second =
     weaker moment left_at old new (LeftByNote disk noted) (LeftByNote disk number)
     (λ left by. left-by-noted disk left number noted is by)
     (and_then moment left_at old mid new (LeftByNote disk noted) first
     (weaker moment left_at mid new (IsNoLarger after) (LeftByNote disk noted)
-    (λ left it. left-by-removal disk noted after left room waits sized it) second))
+    (λ left it. left-by-removal disk noted after left room waits sized rises it) second))
 
-module _ (disk now : Disk) (same : IsSame disk now) (can : CanGrow now) (number : ℕ)
-    (more : List ℕ) (size : ℕ) (note : IsNote disk number more size) where
+module _ (disk now : Disk) (rises : Rises disk) (same : IsSame disk now) (can : CanGrow now)
+    (number : ℕ) (more : List ℕ) (size : ℕ) (note : IsNote disk number more size) where
   waits : waiting_from number now ≡ numbered_from number (waiting disk)
   waits =
       let at : number ≡ max (min number (next_number disk)) (done_to disk) =
@@ -138,6 +148,7 @@ module _ (disk now : Disk) (same : IsSame disk now) (can : CanGrow now) (number 
               same.size,
               note-room disk number more size note,
             );
+        rises = subst Rises (sym at) (rises-grown now (take k more) (same.rises rises));
       }
 
   -- So is what is left from the beginning on.
@@ -148,7 +159,7 @@ module _ (disk now : Disk) (same : IsSame disk now) (can : CanGrow now) (number 
   note-leaves moment left_at old mid new first second =
       and_then moment left_at old mid new (LeftByNote disk number)
       (weaker moment left_at old mid (IsSame disk) (LeftByNote disk number)
-      (λ left is. left-by-same disk left number is) first)
+      (λ left is. left-by-same disk left number rises is) first)
       (weaker moment left_at mid new (Appended more now) (LeftByNote disk number) left-by-note
       second)
 

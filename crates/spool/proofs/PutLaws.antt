@@ -4,12 +4,10 @@ use Rattle.std.proofs.Common.{◌≡◌, ◌⊎◌, ◌≢◌, inl, inr, refl, s
 use Rattle.std.proofs.Common.{◌+◌, ◌-◌, ◌^◌}
 use Rattle.std.proofs.Common.{◌<◌, ◌≤◌, max, min, List, [], ◌∷◌, ◌++◌, length, take, drop, map}
 use Rattle.std.proofs.Common.{arith, true, false}
-use Rattle.std.specs.Prelude.{flat_map, nat_le}
-use Rattle.std.proofs.lemmas.Bool.{cases_lt, cases_Bool, le-leb, lt-leb}
-use Rattle.std.proofs.lemmas.Bool.{cond-true, cond-false}
+use Rattle.std.specs.Prelude.{flat_map}
+use Rattle.std.proofs.lemmas.Bool.{cases_lt, cases_Bool}
 use Rattle.std.proofs.lemmas.List.{append-nil, drop_all, take-map}
 use Rattle.std.proofs.lemmas.List.{length-take, length-map}
-use Rattle.std.proofs.lemmas.List.Elements.{filter-append}
 use Rattle.std.proofs.lemmas.List.Sums.{sum_by-append}
 use Rattle.std.specs.List.{enumerate_from, AllByRecursion}
 use Rattle.spool_device.specs.Disks.{SpoolFile, Disk, new_file, grown, grow_last, disk_size}
@@ -19,15 +17,16 @@ use Rattle.spool.specs.Records.{record_bytes, note_size}
 use Rattle.spool.specs.Spools.{bodies_in, notes_in, is_whole, end_of, greatest, done_to}
 use Rattle.spool.specs.Spools.{next_number}
 use Rattle.spool.specs.Spools.{waiting_in, waiting_from, waiting, numbered_from, CanGrow}
-use Rattle.spool.specs.Spools.{LeftByPut}
+use Rattle.spool.specs.Spools.{LeftByPut, Rises}
 use Rattle.spool.specs.Settled.{IsSame, last_done}
 use Rattle.spool.proofs.RecordLaws.{read-nil, read-spelled, read-cut}
 use Rattle.spool.proofs.RecordLaws.{length-record}
 use Rattle.spool.proofs.ContentLaws.{bodies-put, notes-put, notes-note}
-use Rattle.spool.proofs.ContentLaws.{length-enumerate, drop-numbered}
+use Rattle.spool.proofs.ContentLaws.{length-enumerate}
 use Rattle.spool.proofs.DiskLaws.{greatest-append, grow-front, done-last, next-last, waiting-last}
-use Rattle.spool.proofs.DiskLaws.{size-last}
+use Rattle.spool.proofs.DiskLaws.{size-last, numbered-waiting}
 use Rattle.spool.proofs.DiskLaws.{rest-whole, end-whole, end-torn, grew, grew-whole}
+use Rattle.spool.proofs.RiseLaws.{rises-made, rises-grown}
 
 -- ---- numbers
 
@@ -35,63 +34,6 @@ use Rattle.spool.proofs.DiskLaws.{rest-whole, end-whole, end-torn, grew, grew-wh
 pub done-next : (disk : Disk) → done_to disk ≤ next_number disk
 unfolding next_number
 done-next disk = omega arith
-
-numbered-twice : (n d : ℕ) (bs : List (ℕ × List ℕ))
-    → numbered_from n (numbered_from d bs) ≡ numbered_from (max n d) bs
-numbered-twice n d [] = refl
-numbered-twice n d (b ∷ bs) = elim (cases_lt b.0 d) [
-  | inl lt ↦
-      let out : nat_le d b.0 ≡ false = lt-leb d b.0 lt in
-      let also : nat_le (max n d) b.0 ≡ false = lt-leb (max n d) b.0 (omega arith) in
-      ap (numbered_from n)
-      (cond-false (nat_le d b.0) (b ∷ numbered_from d bs) (numbered_from d bs) out)
-      ∙ (numbered-twice n d bs
-      ∙ sym (cond-false (nat_le (max n d) b.0) (b ∷ numbered_from (max n d) bs)
-      (numbered_from (max n d) bs) also))
-  | inr ge ↦
-      let kept : nat_le d b.0 ≡ true = le-leb d b.0 ge in
-      let first =
-      ap (numbered_from n)
-      (cond-true (nat_le d b.0) (b ∷ numbered_from d bs) (numbered_from d bs) kept) in
-      elim (cases_lt b.0 n) [
-        | inl lt ↦
-            let out : nat_le n b.0 ≡ false = lt-leb n b.0 lt in
-            let also : nat_le (max n d) b.0 ≡ false = lt-leb (max n d) b.0 (omega arith) in
-            first
-            ∙ (cond-false (nat_le n b.0) (b ∷ numbered_from n (numbered_from d bs))
-            (numbered_from n (numbered_from d bs)) out
-            ∙ (numbered-twice n d bs
-            ∙ sym (cond-false (nat_le (max n d) b.0) (b ∷ numbered_from (max n d) bs)
-            (numbered_from (max n d) bs) also)))
-        | inr above ↦
-            let in_it : nat_le n b.0 ≡ true = le-leb n b.0 above in
-            let also : nat_le (max n d) b.0 ≡ true = le-leb (max n d) b.0 (omega arith) in
-            first
-            ∙ (cond-true (nat_le n b.0) (b ∷ numbered_from n (numbered_from d bs))
-            (numbered_from n (numbered_from d bs)) in_it
-            ∙ (ap (λ (l : List (ℕ × List ℕ)). b ∷ l) (numbered-twice n d bs)
-            ∙ sym (cond-true (nat_le (max n d) b.0) (b ∷ numbered_from (max n d) bs)
-            (numbered_from (max n d) bs) also)))
-      ]
-]
-
--- What waits from a number on, of all bodies.
-waiting-numbered : (n : ℕ) (disk : Disk)
-    → waiting_from n disk ≡ numbered_from n (waiting_from 0 disk)
-unfolding waiting_from waiting_in
-waiting-numbered n [] = refl
-waiting-numbered n (f ∷ disk) =
-    ap₂ (λ (l : List (ℕ × List ℕ)) (k : List (ℕ × List ℕ)). l ++ k)
-    (drop-numbered 0 n f.number (bodies_in f) (omega arith)) (waiting-numbered n disk)
-    ∙ sym (filter-append (λ b. nat_le n b.0)
-    (drop (0 - f.number) (enumerate_from f.number (bodies_in f))) (waiting_from 0 disk))
-
--- What waits from a number on, of what waits from another on.
-pub numbered-waiting : (n d : ℕ) (disk : Disk)
-    → numbered_from n (waiting_from d disk) ≡ waiting_from (max n d) disk
-numbered-waiting n d disk =
-    ap (numbered_from n) (waiting-numbered d disk)
-    ∙ (numbered-twice n d (waiting_from 0 disk) ∙ sym (waiting-numbered (max n d) disk))
 
 -- Of a file that ends before a number nothing waits from there on.
 pub none-in : (n : ℕ) (file : SpoolFile) → end_of file ≤ n → waiting_in n file ≡ []
@@ -136,9 +78,9 @@ module _ (disk : Disk) (bs : List (List ℕ)) (can : CanGrow disk)
 
   -- What a crash leaves while the records are written.
   pub put-cut : (limit k : ℕ) → disk_size disk + length (spelled (put_contents bs)) ≤ limit
-      → LeftByPut disk bs limit (grow_last (take k (spelled (put_contents bs))) disk)
+      → Rises disk → LeftByPut disk bs limit (grow_last (take k (spelled (put_contents bs))) disk)
   unfolding waiting
-  put-cut limit k fits =
+  put-cut limit k fits rises =
       let more = take k (spelled (put_contents bs)) in
       let cut = read-cut (put_contents bs) k all in
       let g = grew disk more can in
@@ -159,6 +101,7 @@ module _ (disk : Disk) (bs : List (List ℕ)) (can : CanGrow disk)
             waiting_from (done_to disk) disk ++ enumerate_from (next_number disk) l)
             bodies_are);
         within = omega (arith, g.size, fits, length-cut k (spelled (put_contents bs)));
+        rises = rises-grown disk more rises;
       }
     where
       length-map-put : length (put_contents bs) ≡ length bs
@@ -361,6 +304,7 @@ made disk =
       done = done;
       next = next-last disk file ∙ omega (arith, done, end);
       size = size-last disk file ∙ omega arith;
+      rises = λ rises. rises-made disk file refl rises;
     }
 
 -- The file that was made can grow.

@@ -6,12 +6,13 @@ use Rattle.std.specs.Prelude.{Option, Some, None, IsSome}
 use Rattle.std.specs.Option.{option_to_list}
 use Rattle.spool_device.specs.Disks.{SpoolFile, Disk, disk_size}
 use Rattle.spool_device.specs.Crashes.{Removed, Only, LeavesOnly}
-use Rattle.spool.specs.Spools.{end_of, done_to, next_number, waiting, CanGrow}
+use Rattle.spool.specs.Spools.{end_of, done_to, next_number, waiting, CanGrow, Rises}
 use Rattle.spool.specs.Settled.{segment_of, IsSettled, IsNoted, IsNoLarger}
 use Rattle.spool.specs.declared.state.Segment.{Segment}
 use Rattle.spool.specs.declared.state.Spool.{Spool}
 use Rattle.spool.proofs.Moments.{weaker}
 use Rattle.spool.proofs.PutLaws.{without-first, grows-without}
+use Rattle.spool.proofs.RiseLaws.{rises-without}
 
 -- Two files at least: the oldest, and one that grows.
 record TwoFiles (disk : Disk) (first : Segment) (others : List Segment)
@@ -42,7 +43,11 @@ two-files (f ∷ g ∷ disk) first others growing some is =
 left-removed : (disk left : Disk) (f g : SpoolFile) (more : Disk) → disk ≡ f ∷ g ∷ more
     → IsNoted disk → end_of f ≤ done_to disk → Removed disk left → IsNoLarger disk left
 left-removed disk left f g more are noted ended (inl same) =
-    record { waits = ap waiting same; size = omega (arith, ap disk_size same) }
+    record {
+      waits = ap waiting same;
+      size = omega (arith, ap disk_size same);
+      rises = λ rises. subst Rises (sym same) rises;
+    }
 left-removed disk left f g more are noted ended (inr removed) =
     let w =
     without-first f g more (subst IsNoted are noted)
@@ -51,6 +56,7 @@ left-removed disk left f g more are noted ended (inr removed) =
     record {
       waits = ap waiting now ∙ (w.waits ∙ ap waiting (sym are));
       size = omega (arith, ap disk_size now, w.size, ap disk_size are);
+      rises = λ rises. subst Rises (sym removed) (rises-without disk rises);
     }
 
 noted-removed : (disk left : Disk) (f g : SpoolFile) (more : Disk) → disk ≡ f ∷ g ∷ more
@@ -125,6 +131,7 @@ module _ {D : Type 0} (files : D → Disk) (moment : D → ℕ) (left_at : D →
             λ _. subst CanGrow (sym now)
             (grows-without t.oldest t.second t.more w.next (subst CanGrow t.are (was.grows some)));
         shut = λ none. absurd (go old.growing refl some (sym growing ∙ none));
+        rises = subst Rises (sym removed) (rises-without (files old.device) was.rises);
         durable = only;
       }
     where

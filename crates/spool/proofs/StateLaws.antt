@@ -8,13 +8,15 @@ use Rattle.std.specs.Option.{option_to_list}
 use Rattle.std.proofs.lemmas.List.{map-append, same_from_push}
 use Rattle.spool_device.specs.Disks.{SpoolFile, Disk, new_file, grown, grow_last, disk_size}
 use Rattle.spool_device.specs.Crashes.{Created, Only}
-use Rattle.spool.specs.Records.{bodies}
-use Rattle.spool.specs.Spools.{bodies_in, end_of, done_to, next_number, CanGrow}
+use Rattle.spool.specs.Records.{bodies, rest}
+use Rattle.spool.specs.Spools.{bodies_in, end_of, done_to, next_number, CanGrow, Rises}
 use Rattle.spool.specs.Settled.{segment_of, IsSettled, IsSame, Grows, grown_by}
 use Rattle.spool.specs.declared.state.Segment.{Segment}
 use Rattle.spool.specs.declared.state.Spool.{Spool}
 use Rattle.spool.proofs.RecordLaws.{read-nil}
-use Rattle.spool.proofs.DiskLaws.{grow-front, next-last, size-last, rest-whole, end-whole}
+use Rattle.spool.proofs.DiskLaws.{grow-front, next-last, size-last, rest-whole, whole-rest}
+use Rattle.spool.proofs.DiskLaws.{end-whole}
+use Rattle.spool.proofs.RiseLaws.{rises-grown}
 use Rattle.spool.proofs.PutLaws.{made, made-grows}
 
 -- Where the file that grows has bodies, a new one has a higher number.
@@ -45,7 +47,7 @@ end-new n =
 pub same-refl : (disk left : Disk) → left ≡ disk → IsSame disk left
 same-refl disk left is =
     subst (λ (d : Disk). IsSame disk d) (sym is)
-    (record { waits = λ n. refl; done = refl; next = refl; size = refl })
+    (record { waits = λ n. refl; done = refl; next = refl; size = refl; rises = λ rises. rises })
 
 -- So do those with a new file.
 pub same-made : (disk left : Disk) (n : ℕ) → n ≡ next_number disk → left ≡ disk ++ new_file n ∷ []
@@ -85,15 +87,20 @@ module _ {D : Type 0} (files : D → Disk) (moment : D → ℕ) (left_at : D →
 
   -- After a file was made.
   pub settled-made : new.older.items ≡ old.older.items ++ option_to_list old.growing
-      → new.growing ≡ Some (record { number = old.next; «end» = old.next; len = 0 })
+      → new.growing ≡ Some (record { number = old.next; «end» = old.next; len = 0; rest = 0 })
       → new.done ≡ old.done → new.next ≡ old.next → new.size ≡ old.size
       → after ≡ before ++ new_file old.next ∷ []
       → Only after (left_at new.device (moment new.device)) → IsSettled files moment left_at new
   settled-made older growing done next size now only =
       let same = same-made before after old.next was.next now in
       let segment : segment_of (new_file old.next)
-      ≡ record { number = old.next; «end» = old.next; len = 0 } =
-      ap (λ (k : ℕ). record { number = old.next; «end» = k; len = 0 }) (end-new old.next) in
+      ≡ record { number = old.next; «end» = old.next; len = 0; rest = 0 } =
+      (λ i. record {
+        number = old.next;
+        «end» = end-new old.next i;
+        len = 0;
+        rest = length (read-nil.1 i);
+      }) in
       record {
         segments =
             ap₂ (λ (l : List Segment) (o : Option Segment). l ++ option_to_list o) older growing
@@ -107,6 +114,7 @@ module _ {D : Type 0} (files : D → Disk) (moment : D → ℕ) (left_at : D →
             λ _. subst CanGrow (sym (now ∙ ap (λ (k : ℕ). before ++ new_file k ∷ []) was.next))
             (made-grows before);
         shut = λ none. absurd (cc (none, growing));
+        rises = same.rises was.rises;
         durable = only;
       }
 
@@ -123,6 +131,7 @@ module _ {D : Type 0} (files : D → Disk) (moment : D → ℕ) (left_at : D →
         size = g.size_is ∙ ap disk_size (sym now);
         grows = λ _. subst CanGrow (sym now) g.still;
         shut = λ none. absurd (shut old.growing refl some none);
+        rises = subst Rises (sym now) (rises-grown before more was.rises);
         durable = only;
       }
     where
@@ -153,9 +162,22 @@ module _ {D : Type 0} (files : D → Disk) (moment : D → ℕ) (left_at : D →
             ap disk_size grew,
             size-last front (grown more last),
           ) in
+          let still = same_from_push g.still.front front g.still.last (grown more last)
+          (sym g.still.split ∙ grew) in
+          let nothing : rest (grown more last).bytes ≡ [] =
+          ap (λ (f : SpoolFile). rest f.bytes) (sym still.1)
+          ∙ whole-rest g.still.last g.still.whole in
+          let left : segment.rest ≡ length (rest (grown more last).bytes) =
+          ap (λ (s : Segment). s.rest) both.1
+          ∙ ap length (whole-rest last g.can.whole ∙ sym nothing) in
           let segment_is : grown_by new.next (length more) (Some segment)
           ≡ Some (segment_of (grown more last)) =
-          (λ i. Some (record { number = number i; «end» = sym g.end i; len = fits i })) in
+          (λ i. Some (record {
+            number = number i;
+            «end» = sym g.end i;
+            len = fits i;
+            rest = left i;
+          })) in
           ap₂ (λ (l : List Segment) (o : Option Segment). l ++ option_to_list o) (older ∙ both.0)
           (growing ∙ (ap (grown_by new.next (length more)) is ∙ segment_is))
           ∙ (sym (map-append segment_of front (grown more last ∷ []))

@@ -1,20 +1,20 @@
 -- What is found in one more file, and the spool that is made of what was found.
 use Rattle.std.proofs.Common.{◌≡◌, inl, inr, refl, sym, ap, ap₂, ◌∙◌, subst, ℕ, zero, suc}
-use Rattle.std.proofs.Common.{◌+◌, ◌-◌, ◌<◌, max}
+use Rattle.std.proofs.Common.{◌+◌, ◌-◌, ◌<◌, ◌≤◌, max}
 use Rattle.std.proofs.Common.{List, [], ◌∷◌, ◌++◌, length, map, drop, arith}
 use Rattle.std.proofs.Common.{cond, get_or}
 use Rattle.std.specs.Prelude.{Option, Some, None, IsSome, ◌==◌, slice_get}
 use Rattle.std.specs.Option.{option_to_list}
 use Rattle.std.proofs.lemmas.Bool.{cases_lt}
-use Rattle.std.proofs.lemmas.List.{append-nil, map-append, same_from_push}
+use Rattle.std.proofs.lemmas.List.{append-nil, map-append, same_from_push, get_or-map, length-map}
 use Rattle.std.proofs.lemmas.List.Sums.{sum_by-append}
-use Rattle.spool_device.specs.Disks.{SpoolFile, Disk, disk_size}
+use Rattle.spool_device.specs.Disks.{SpoolFile, Disk, disk_size, file_numbers}
 use Rattle.spool_device.specs.Crashes.{Only}
 use Rattle.spool.specs.Records.{contents, rest, bodies, notes}
-use Rattle.spool.specs.Spools.{bodies_in, notes_in, is_whole, end_of, greatest, done_to}
-use Rattle.spool.specs.Spools.{next_number}
+use Rattle.spool.specs.Spools.{bodies_in, notes_in, is_whole, bodies_end, end_of, greatest}
+use Rattle.spool.specs.Spools.{done_to, next_number}
 use Rattle.std.specs.List.{enumerate_from}
-use Rattle.spool.specs.Spools.{damaged_bytes, waiting_in}
+use Rattle.spool.specs.Spools.{damaged_bytes, waiting_in, Rises}
 use Rattle.spool.specs.Settled.{segment_of, IsSettled}
 use Rattle.spool.specs.Surveys.{IsSurvey, IsSplit}
 use Rattle.spool.specs.declared.state.Segment.{Segment}
@@ -22,23 +22,33 @@ use Rattle.spool.specs.declared.state.Spool.{Spool}
 use Rattle.spool.specs.declared.opening.Survey.{Survey}
 use Rattle.spool.proofs.DiskLaws.{greatest-append, done-last, size-last}
 use Rattle.spool.proofs.PutLaws.{number-below}
+use Rattle.spool.proofs.RiseLaws.{rises-push, ends-before}
 
 -- Of no files.
 pub survey-none : (survey : Survey) → survey.segments.items ≡ [] → survey.done ≡ 0
-    → survey.last_end ≡ 0 → survey.size ≡ 0 → survey.damaged ≡ 0 → IsSurvey [] survey
+    → survey.bodies_end ≡ 0 → survey.last_end ≡ 0 → survey.size ≡ 0 → survey.damaged ≡ 0
+    → IsSurvey [] survey
 unfolding done_to damaged_bytes
-survey-none survey segments done ends size damaged = record {
+survey-none survey segments done bodies_are ends size damaged = record {
   segments = segments;
   done = done;
+  bodies = bodies_are;
   ends = ends;
   size = size;
   damaged = damaged;
   whole = λ front last is. absurd (none front last is);
+  rises = tt;
 }
   where
     none : (front : Disk) (last : SpoolFile) → [] ≡ front ++ last ∷ [] → ⊥
     none [] last is = cc
     none (f ∷ front) last is = cc
+
+-- Where the bodies of a file end, as they are found.
+bodies-end-found : (file : SpoolFile) (n b : ℕ) → file.number ≡ n
+    → b ≡ length (bodies (contents file.bytes)) → bodies_end file ≡ n + b
+unfolding bodies_end
+bodies-end-found file n b number count = omega (arith, number, count)
 
 -- Where a file ends, as it is found.
 pub end-found : (file : SpoolFile) (n b t r : ℕ) → file.number ≡ n
@@ -52,24 +62,41 @@ end-found file n b t r number count left torn =
 
 -- With one more file.
 pub survey-more : (disk : Disk) (file : SpoolFile) (old new : Survey) (n b t r d : ℕ)
-    → IsSurvey disk old → file.number ≡ n
+    → IsSurvey disk old → file.number ≡ n → old.bodies_end ≤ n
     → b ≡ length (bodies (contents file.bytes)) → d ≡ greatest (notes (contents file.bytes))
     → r ≡ length (rest file.bytes) → t ≡ cond (r == 0) 0 1
     → new.segments.items
-    ≡ old.segments.items ++ record { number = n; «end» = n + b + t; len = length file.bytes } ∷ []
-    → new.done ≡ max old.done d → new.last_end ≡ max old.last_end (n + b + t)
+    ≡ old.segments.items
+    ++ record { number = n; «end» = n + b + t; len = length file.bytes; rest = r } ∷ []
+    → new.done ≡ max old.done d → new.bodies_end ≡ max old.bodies_end (n + b)
+    → new.last_end ≡ max old.last_end (n + b + t)
     → new.size ≡ old.size + length file.bytes → new.damaged ≡ old.damaged + r
     → new.is_whole ≡ (r == 0) → IsSurvey (disk ++ file ∷ []) new
 unfolding done_to damaged_bytes notes_in is_whole
-survey-more disk file old new n b t r d was number count noted left torn segments done ends size
-    damaged whole =
+survey-more disk file old new n b t r d was number above count noted left torn segments done
+    bodies_are ends size damaged whole =
+    let bodies_end_is : bodies_end file ≡ n + b = bodies-end-found file n b number count in
     let end_is : end_of file ≡ n + b + t = end-found file n b t r number count left torn in
     record {
       segments =
           segments ∙ (ap₂ (λ (l : List Segment) (s : Segment). l ++ s ∷ []) was.segments
-          (λ i. record { number = sym number i; «end» = sym end_is i; len = length file.bytes })
+          (λ i. record {
+            number = sym number i;
+            «end» = sym end_is i;
+            len = length file.bytes;
+            rest = left i;
+          })
           ∙ sym (map-append segment_of disk (file ∷ [])));
       done = done ∙ (omega (arith, was.done, noted, done-last disk file));
+      bodies =
+          omega (
+            arith,
+            bodies_are,
+            was.bodies,
+            bodies_end_is,
+            ap greatest (map-append bodies_end disk (file ∷ [])),
+            greatest-append (map bodies_end disk) (bodies_end file ∷ []),
+          );
       ends =
           omega (
             arith,
@@ -92,7 +119,14 @@ survey-more disk file old new n b t r d was number count noted left torn segment
           let same : file ≡ last = (same_from_push disk front file last is).1 in
           whole
           ∙ (ap (λ (k : ℕ). k == 0) left ∙ ap (λ (f : SpoolFile). length (rest f.bytes) == 0) same);
+      rises = rises-push disk file was.rises (omega (arith, was.bodies, number, above));
     }
+
+-- A file whose number is below the end of the others' bodies doesn't rise after them.
+pub survey-overlaps : (disk : Disk) (file : SpoolFile) (survey : Survey) → IsSurvey disk survey
+    → file.number < survey.bodies_end → Rises (disk ++ file ∷ []) → ⊥
+survey-overlaps disk file survey is below rises =
+    omega (arith, is.bodies, below, ends-before disk file rises)
 
 -- ---- the loop over the files
 
@@ -102,6 +136,19 @@ pub file-at : (disk : Disk) (i : ℕ) (d : SpoolFile) → i < length disk
 file-at [] i d lt = absurd (omega arith)
 file-at (f ∷ disk) zero d lt = refl
 file-at (f ∷ disk) (suc i) d lt = file-at disk i d (omega (arith, lt))
+
+-- Its number is one of the numbers.
+pub number-at : (disk : Disk) (i : ℕ) (d : SpoolFile) (numbers : List ℕ)
+    → numbers ≡ file_numbers disk → i < length numbers
+    → (i < length disk) × ((get_or disk i d).number ≡ get_or numbers i 0)
+number-at disk i d numbers are lt =
+    let sized : length numbers ≡ length disk =
+    ap length are ∙ length-map disk (λ (f : SpoolFile). f.number) in
+    let there : i < length disk = omega (arith, sized, lt) in (
+      there,
+      sym (ap (λ (l : List ℕ). get_or l i 0) are
+          ∙ get_or-map (λ (f : SpoolFile). f.number) disk i d 0 there),
+    )
 
 -- ---- the spool
 
@@ -165,6 +212,9 @@ settled-found files moment left_at spool survey disk found same only split done 
     size_is : spool.size ≡ disk_size (files spool.device)
     size_is = size ∙ (found.size ∙ ap disk_size (sym same))
 
+    rises : Rises (files spool.device)
+    rises = subst Rises (sym same) found.rises
+
     nothing : IsSome {T = Segment} None → ⊥
     nothing some = cc
 
@@ -189,6 +239,7 @@ settled-found files moment left_at spool survey disk found same only split done 
             end = ap (λ (s : Segment). s.«end») (sym lf.is) ∙ (parts.2 ∙ next_is);
           };
           shut = λ none. absurd (cc (is, none));
+          rises = rises;
           durable = only;
         }
     go None is parts =
@@ -215,6 +266,7 @@ settled-found files moment left_at spool survey disk found same only split done 
                 | inr other ↦ number-below front last (inr (λ e. other (e ∙ sym next_at)))
               ] in
               subst (λ (d : Disk). last.number < next_number d) (sym at) below;
+          rises = rises;
           durable = only;
         }
 

@@ -29,3 +29,16 @@ torn_file = record { number = 9; bytes = second ++ note ++ take 9 second }
 -- a file of which the first record is damaged
 abbrev pub damaged_file : SpoolFile
 damaged_file = record { number = 20; bytes = flipped ++ first }
+
+-- a file of a body, with the first number after the body of the torn file
+abbrev pub touching_file : SpoolFile
+touching_file = record { number = 10; bytes = first }
+
+-- a file of a body, and of a note that is cut short
+abbrev pub torn_note_file : SpoolFile
+torn_note_file = record { number = 5; bytes = first ++ take 16 note }
+
+-- a file of a body, with the first number after the body of that file, which is the number of the
+-- old file's second body
+abbrev pub sixth_file : SpoolFile
+sixth_file = record { number = 6; bytes = second }

@@ -6,8 +6,8 @@ use Rattle.std.specs.List.{AllByRecursion}
 use Rattle.spool_device.specs.Disks.{SpoolFile, Disk, grown, grow_last, disk_size}
 use Rattle.spool_device.specs.Crashes.{Only}
 use Rattle.spool.specs.Spools.{end_of, done_to, next_number, waiting, waiting_from, CanGrow}
-use Rattle.spool.specs.Spools.{notes_in, greatest}
-use Rattle.spool.specs.Records.{IsContent, spelled, body_content, note_content, note_size}
+use Rattle.spool.specs.Spools.{notes_in, greatest, Rises}
+use Rattle.spool.specs.Records.{IsContent, spelled, body_content, note_content, note_size, rest}
 use Rattle.spool.specs.declared.state.Segment.{Segment}
 use Rattle.spool.specs.declared.state.Spool.{Spool}
 
@@ -21,7 +21,12 @@ limit_of spool = spool.limit
 
 -- what a spool keeps of a file
 abbrev pub segment_of : SpoolFile → Segment
-segment_of file = record { number = file.number; «end» = end_of file; len = length file.bytes }
+segment_of file = record {
+  number = file.number;
+  «end» = end_of file;
+  len = length file.bytes;
+  rest = length (rest file.bytes);
+}
 
 -- a segment that has grown by so many bytes, and ends before this number
 abbrev pub grown_by : ℕ → ℕ → Option Segment → Option Segment
@@ -31,7 +36,7 @@ grown_by after len (Some segment) = Some (record segment {
   len = min (segment.len + len) (2 ^ 64 - 1);
 })
 
--- The files of a spool are as it knows them, and all of that is on the disk.
+-- The files of a spool are as it knows them, their numbers rise, and all of that is on the disk.
 pub record IsSettled {D : Type 0} (files : D → Disk) (moment : D → ℕ)
     (left_at : D → ℕ → Disk → Type 0) (spool : Spool D) : Type 0 where
   pub segments : spool.older.items ++ option_to_list spool.growing
@@ -42,14 +47,17 @@ pub record IsSettled {D : Type 0} (files : D → Disk) (moment : D → ℕ)
   pub grows : IsSome spool.growing → CanGrow (files spool.device)
   pub shut : spool.growing ≡ None → (front : Disk) (last : SpoolFile)
       → files spool.device ≡ front ++ last ∷ [] → last.number < next_number (files spool.device)
+  pub rises : Rises (files spool.device)
   pub durable : Only (files spool.device) (left_at spool.device (moment spool.device))
 
--- The same bodies wait, with the same numbers, and the files are as large.
+-- The same bodies wait, with the same numbers, the files are as large, and their numbers rise if
+-- they did.
 pub record IsSame (disk left : Disk) : Type 0 where
   pub waits : (number : ℕ) → waiting_from number left ≡ waiting_from number disk
   pub done : done_to left ≡ done_to disk
   pub next : next_number left ≡ next_number disk
   pub size : disk_size left ≡ disk_size disk
+  pub rises : Rises disk → Rises left
 
 -- With these bytes at the end of the newest file, the files have this next number, note this number
 -- and are as large as that, and the newest file can grow on.
@@ -96,7 +104,8 @@ abbrev pub FirstIsDone : List Segment → ℕ → Type 0
 FirstIsDone segments done =
     (first : Segment) × (others : List Segment) × (segments ≡ first ∷ others) × (first.«end» ≤ done)
 
--- The same bodies wait, and the files are no larger.
+-- The same bodies wait, the files are no larger, and their numbers rise if they did.
 pub record IsNoLarger (disk left : Disk) : Type 0 where
   pub waits : waiting left ≡ waiting disk
   pub size : disk_size left ≤ disk_size disk
+  pub rises : Rises disk → Rises left

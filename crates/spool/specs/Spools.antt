@@ -3,7 +3,7 @@ use Rattle.std.specs.Prelude.{◌≡◌, ◌⊎◌, ℕ, ◌+◌, ◌-◌, ◌*�
 use Rattle.std.specs.Prelude.{◌++◌}
 use Rattle.std.specs.Prelude.{length, map, take, drop, flat_map, filter, sum_by, nat_le, true}
 use Rattle.std.specs.Prelude.{if◌then◌else◌, Any, ◌^◌}
-use Rattle.std.specs.List.{enumerate_from}
+use Rattle.std.specs.List.{AllByRecursion, enumerate_from}
 use Rattle.spool_device.specs.Disks.{SpoolFile, Disk, disk_size}
 use Rattle.spool.specs.Records.{contents, rest, bodies, notes, note_size, spelled, body_content}
 
@@ -21,11 +21,15 @@ notes_in file = notes (contents file.bytes)
 unfoldable pub is_whole : SpoolFile → Bool
 is_whole file = length (rest file.bytes) == 0
 
--- The number after those of a file's bodies: these are numbered from the file's own number on. What
--- isn't read at its end has taken one number.
+-- The number after those of a file's bodies: these are numbered from the file's own number on.
+unfoldable pub bodies_end : SpoolFile → ℕ
+unfolding bodies_in
+bodies_end file = file.number + length (bodies_in file)
+
+-- The number after those that a file has taken: what isn't read at its end has taken one.
 unfoldable pub end_of : SpoolFile → ℕ
-unfolding bodies_in is_whole
-end_of file = file.number + length (bodies_in file) + (if is_whole file then 0 else 1)
+unfolding bodies_end is_whole
+end_of file = bodies_end file + (if is_whole file then 0 else 1)
 
 -- ---- all files
 
@@ -68,6 +72,21 @@ reserved disk = disk_size disk + note_size * (next_number disk - done_to disk)
 abbrev pub numbered_from : ℕ → List (ℕ × List ℕ) → List (ℕ × List ℕ)
 numbered_from number bodies = filter (λ body. nat_le number body.0) bodies
 
+-- ---- numbers that rise
+
+-- The bodies of each file have higher numbers than those of the files before it. What isn't read at
+-- the end of a file doesn't count here.
+abbrev pub Rises : Disk → Type 0
+Rises [] = Unit {0}
+Rises (file ∷ disk) = AllByRecursion (λ later. bodies_end file ≤ later.number) disk × Rises disk
+
+-- The numbers of these bodies rise. They are no lower than a first one, and below a last one.
+abbrev pub AreRising : ℕ → ℕ → List (ℕ × List ℕ) → Type 0
+AreRising first last [] = first ≤ last
+AreRising first last (body ∷ bodies) = (first ≤ body.0) × AreRising (body.0 + 1) last bodies
+
+-- ---- growth
+
 -- The newest file can grow: all its bytes are records, and the next number is the one after its
 -- bodies.
 pub record CanGrow (disk : Disk) : Type 0 where
@@ -95,15 +114,18 @@ HasNoRoom disk bodies limit =
 
 -- What a crash during a put leaves: what waited, and some of the bodies, the first ones, none, some
 -- or all, each of them whole, with the numbers that they are given. The files stay within the
--- limit, if they were.
+-- limit, if they were, and their numbers rise.
 pub record LeftByPut (disk : Disk) (bodies : List (List ℕ)) (limit : ℕ) (left : Disk) : Type 0 where
   pub count : ℕ
   pub few : count ≤ length bodies
   pub waits : waiting left ≡ waiting disk ++ enumerate_from (next_number disk) (take count bodies)
   pub within : disk_size left ≤ max limit (disk_size disk)
+  pub rises : Rises left
 
 -- What a crash leaves while it is noted that all bodies with lower numbers were delivered: what
--- waited, with those bodies or without them. The files stay within what was reserved.
+-- waited, with those bodies or without them. The files stay within what was reserved, and their
+-- numbers rise.
 pub record LeftByNote (disk : Disk) (number : ℕ) (left : Disk) : Type 0 where
   pub waits : (waiting left ≡ waiting disk) ⊎ (waiting left ≡ numbered_from number (waiting disk))
   pub within : disk_size left ≤ reserved disk
+  pub rises : Rises left

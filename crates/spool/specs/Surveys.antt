@@ -2,20 +2,23 @@
 use Rattle.std.specs.Prelude.{◌≡◌, ◌≢◌, ◌⊎◌, ℕ, List, [], ◌∷◌, ◌++◌, map, Bool, true, false, Option}
 use Rattle.std.specs.Prelude.{Some, None}
 use Rattle.spool_device.specs.Disks.{SpoolFile, Disk, disk_size}
-use Rattle.spool.specs.Spools.{is_whole, end_of, greatest, done_to, damaged_bytes}
+use Rattle.spool.specs.Spools.{is_whole, bodies_end, end_of, greatest, done_to}
+use Rattle.spool.specs.Spools.{damaged_bytes, Rises}
 use Rattle.spool.specs.Settled.{segment_of}
 use Rattle.spool.specs.declared.state.Segment.{Segment}
 use Rattle.spool.specs.declared.opening.Survey.{Survey}
 
--- what these files are
+-- what these files are, whose numbers rise
 pub record IsSurvey (disk : Disk) (survey : Survey) : Type 0 where
   pub segments : survey.segments.items ≡ map segment_of disk
   pub done : survey.done ≡ done_to disk
+  pub bodies : survey.bodies_end ≡ greatest (map bodies_end disk)
   pub ends : survey.last_end ≡ greatest (map end_of disk)
   pub size : survey.size ≡ disk_size disk
   pub damaged : survey.damaged ≡ damaged_bytes disk
   pub whole : (front : Disk) (last : SpoolFile) → disk ≡ front ++ last ∷ []
       → survey.is_whole ≡ is_whole last
+  pub rises : Rises disk
 
 -- The last segment is taken out, where it is whole and its bodies can go on with this number.
 abbrev pub IsSplit : List Segment → List Segment → Bool → ℕ → Option Segment → Type 0

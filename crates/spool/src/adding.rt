@@ -58,6 +58,7 @@ impl<D: Device> Spool<D> {
             → IsPut (D.files self.old.device) bodies bytes.now next size self.old.limit
             → waiting (D.files self.new.device)
             ≡ waiting (D.files self.old.device) ++ enumerate_from self.old.next bodies) }
+        ensures next { OnOk result (self.new.next ≡ next) }
         ensures bound { OnOk result (D.is_known
             → reserved (D.files self.new.device) ≤ self.new.limit) }
         ensures limit { self.new.limit ≡ self.old.limit }

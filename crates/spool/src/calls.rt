@@ -32,6 +32,10 @@ impl<D: Device> Spool<D> {
         ensures waiting { IfOk result (λ first. D.is_known
             → waiting (D.files (device_of self.new)) ≡ waiting (D.files (device_of self.old))
             ++ enumerate_from first (map (λ body. body.items) bodies.now)) }
+        ensures first { IfOk result (λ first. D.is_known
+            → first ≡ next_number (D.files (device_of self.old))) }
+        ensures next { OnOk result (D.is_known → next_number (D.files (device_of self.new))
+            ≡ next_number (D.files (device_of self.old)) + length bodies.now) }
         ensures bound { OnOk result (D.is_known
             → reserved (D.files (device_of self.new)) ≤ limit_of self.new) }
         ensures limit { limit_of self.new ≡ limit_of self.old }
@@ -64,6 +68,8 @@ impl<D: Device> Spool<D> {
             → IsSettled D.files D.moment D.left_at self.new) }
         ensures waiting { OnOk result (D.is_known → waiting (D.files (device_of self.new))
             ≡ numbered_from number (waiting (D.files (device_of self.old)))) }
+        ensures next { OnOk result (D.is_known → next_number (D.files (device_of self.new))
+            ≡ next_number (D.files (device_of self.old))) }
         ensures bound { OnOk result (D.is_known
             → reserved (D.files (device_of self.new))
             ≤ reserved (D.files (device_of self.old))) }

@@ -14,12 +14,15 @@ pub enum SpoolError {
     /// Memory was refused.
     #[error("there is no memory")]
     Memory,
-    /// A file, or the folder, could not be read or written.
+    /// A file, or the folder, could not be read or written, or a file isn't as it was written.
     #[error("the files could not be read or written")]
     Failed,
     /// The spool has no room.
     #[error("the spool is full")]
     Full,
+    /// The numbers of the bodies of two files overlap: they are files of several spools.
+    #[error("the files are of several spools: their numbers overlap")]
+    Overlap,
 }
 
 impl From<AllocError> for SpoolError {

@@ -1,15 +1,18 @@
 //! Giving the bodies that wait, and what a spool says of itself.
-ghost use Rattle.std.specs.Prelude.{◌≡◌, ℕ, ◌+◌, ◌≤◌, List, [], ◌∷◌, ◌++◌, length, map, Some, slice_get, IfOk};
-ghost use Rattle.std.specs.Option.{option_map, option_to_list};
+ghost use Rattle.std.specs.Prelude.{◌≡◌, ℕ, ◌+◌, ◌≤◌, List, [], ◌∷◌, ◌++◌, length, map, max, Some, slice_get, IfOk};
+ghost use Rattle.std.specs.Prelude.{◌↔◌, ◌≢◌, drop, true, if◌then◌else◌, ◌==◌, OnOk, IsErrOf};
+ghost use Rattle.std.specs.Option.{option_to_list};
 ghost use Rattle.std.specs.List.{enumerate_from};
 ghost use Rattle.spool_device.specs.Disks.{SpoolFile, disk_size};
 ghost use Rattle.spool_device.specs.Crashes.{LeavesOnly};
+ghost use Rattle.spool.specs.Records.{contents, bodies};
 ghost use Rattle.spool.specs.Spools.{done_to, next_number, waiting_in};
-ghost use Rattle.spool.specs.Settled.{IsSettled, device_of, limit_of};
+ghost use Rattle.spool.specs.Settled.{IsSettled, device_of, limit_of, segment_of};
 
 use crate::SpoolError;
-use crate::records::bodies_after;
+use crate::records::{bodies_after, torn_count};
 use crate::state::{Segment, Spool};
+use gzip_read::CrcTable;
 use spool_device::Device;
 use std::alloc::Global;
 
@@ -22,18 +25,55 @@ pub struct WaitingBodies {
     pub bodies: Vec<Vec<u8>>,
 }
 
-/// The number of a file by its index.
-fn number_at(older: &[Segment], growing: Option<Segment>, index: usize) -> Option<u64>
-    ensures { result ≡ option_map (λ segment. segment.number)
-        (slice_get (older.now ++ option_to_list growing) index) }
+/// What is kept of a file, by its index.
+fn segment_at(older: &[Segment], growing: Option<Segment>, index: usize) -> Option<Segment>
+    ensures { result ≡ slice_get (older.now ++ option_to_list growing) index }
 {
     if index < older.len() {
-        return Some(older[index].number);
+        return Some(older[index]);
     }
-    match growing {
-        Some(segment) if index == older.len() => Some(segment.number),
-        _ => None,
+    if index == older.len() { growing } else { None }
+}
+
+/// Whether this is what is kept of a file with these bodies and bytes that are not read.
+fn is_same(segment: Segment, len: u64, count: u64, rest: usize) -> bool
+    ensures { (result ≡ true) ↔ (segment ≡ record {
+      number = segment.number;
+      «end» = segment.number + count + (if rest == 0 then 0 else 1);
+      len = len;
+      rest = rest;
+    }) }
+{
+    let end = u128::from(segment.number) + u128::from(count) + u128::from(torn_count(rest));
+    u128::from(segment.end) == end && segment.len == len && segment.rest == rest as u64
+}
+
+/// The bodies of a file but for so many, the first ones, if its bytes are as it is known.
+///
+/// # Errors
+///
+/// `Memory`; `Failed` if they are not.
+fn known_bodies(
+    alloc: Global,
+    table: &CrcTable<Global>,
+    bytes: &[u8],
+    segment: Segment,
+    skip: u64,
+) -> Result<Vec<Vec<u8>>, SpoolError>
+    ensures bodies { IfOk result (λ v. map (λ body. body.items) v.items
+        ≡ drop skip (bodies (contents bytes.now))) }
+    ensures known { OnOk result (segment ≡ segment_of (record {
+      number = segment.number;
+      bytes = bytes.now;
+    })) }
+    ensures failed { IsErrOf result SpoolError.Failed
+        → segment ≢ segment_of (record { number = segment.number; bytes = bytes.now }) }
+{
+    let found = bodies_after(alloc, table, bytes, skip)?;
+    if !is_same(segment, bytes.len() as u64, found.count, found.rest) {
+        return Err(SpoolError::Failed);
     }
+    Ok(found.bodies)
 }
 
 impl<D: Device> Spool<D> {
@@ -45,20 +85,27 @@ impl<D: Device> Spool<D> {
         self.older.len() + self.growing.iter().count()
     }
 
-    /// The bodies of a file that wait, by the file's index, counted from 0 for the oldest. Those of
-    /// all files, in order, are all bodies that wait. One file is read at a time, and nothing is
-    /// changed.
+    /// The bodies of a file that wait and have this number or a higher one, by the file's index,
+    /// counted from 0 for the oldest. Those of all files, in order, are all such bodies. One file
+    /// is read at a time, and nothing is changed.
     ///
     /// # Errors
     ///
-    /// `Memory`; `Failed`, also where there is no such file. The spool is as it was.
-    pub fn bodies(&mut self, alloc: Global, index: usize) -> Result<WaitingBodies, SpoolError>
+    /// `Memory`; `Failed`, also where there is no such file, and where the file isn't as it was
+    /// written, since a bit was flipped or bytes are gone: open the spool again, which counts what
+    /// is damaged. The spool is as it was.
+    pub fn bodies(
+        &mut self,
+        alloc: Global,
+        index: usize,
+        from: u64,
+    ) -> Result<WaitingBodies, SpoolError>
         requires { D.is_known → IsSettled D.files D.moment D.left_at self.old }
         ensures settled { D.is_known → IsSettled D.files D.moment D.left_at self.new }
         ensures bodies { IfOk result (λ found. D.is_known → (file : SpoolFile)
             → slice_get (D.files (device_of self.old)) index ≡ Some file
             → enumerate_from found.first (map (λ body. body.items) found.bodies.items)
-            ≡ waiting_in (done_to (D.files (device_of self.old))) file) }
+            ≡ waiting_in (max (done_to (D.files (device_of self.old))) from) file) }
         ensures same { D.is_known
             → D.files (device_of self.new) ≡ D.files (device_of self.old) }
         ensures limit { limit_of self.new ≡ limit_of self.old }
@@ -66,14 +113,15 @@ impl<D: Device> Spool<D> {
             → LeavesOnly D.moment D.left_at (device_of self.old) (device_of self.new)
             (D.left_at (device_of self.old) (D.moment (device_of self.old))) }
     {
-        let Some(number) = number_at(&self.older, self.growing, index) else {
+        let Some(segment) = segment_at(&self.older, self.growing, index) else {
             return Err(SpoolError::Failed);
         };
         let bytes = self.device.read(alloc, index)?;
-        let skip = self.done.saturating_sub(number);
-        let bodies = bodies_after(alloc, &self.table, &bytes, skip)?;
+        let start = self.done.max(from);
+        let skip = start.saturating_sub(segment.number);
+        let bodies = known_bodies(alloc, &self.table, &bytes, segment, skip)?;
         Ok(WaitingBodies {
-            first: number.max(self.done),
+            first: segment.number.max(start),
             bodies,
         })
     }

@@ -1,14 +1,13 @@
 //! Opening a spool: what its files are.
-ghost use Rattle.std.specs.Prelude.{◌≡◌, ℕ, ◌+◌, ◌*◌, ◌^◌, ◌<◌, ◌≤◌, List, [], ◌∷◌, ◌++◌, length, IfOk, IfErr, OnOk};
-ghost use Rattle.std.specs.Prelude.{if◌then◌else◌, ◌==◌};
+ghost use Rattle.std.specs.Prelude.{◌≡◌, ℕ, ◌+◌, ◌*◌, ◌^◌, ◌<◌, ◌≤◌, List, [], ◌∷◌, ◌++◌, length, IfOk, IfErr, OnOk, IsErrOf};
 ghost use Rattle.spool_device.specs.Disks.{SpoolFile, Disk};
 ghost use Rattle.spool_device.specs.Crashes.{LeavesOnly, Only};
-ghost use Rattle.spool.specs.Spools.{damaged_bytes};
+ghost use Rattle.spool.specs.Spools.{damaged_bytes, Rises};
 ghost use Rattle.spool.specs.Settled.{IsSettled, device_of, limit_of};
 ghost use Rattle.spool.specs.Surveys.{IsSurvey, IsSplit};
 
 use crate::SpoolError;
-use crate::records::scan;
+use crate::records::{scan, torn_count};
 use crate::state::{Segment, Spool};
 use gzip_read::CrcTable;
 use spool_device::Device;
@@ -29,17 +28,11 @@ pub struct Opened<D: Device> {
 pub(crate) struct Survey {
     pub(crate) segments: Vec<Segment>,
     pub(crate) done: u64,
+    pub(crate) bodies_end: u64,
     pub(crate) last_end: u64,
     pub(crate) size: u64,
     pub(crate) damaged: u64,
     pub(crate) is_whole: bool,
-}
-
-/// The number that bytes which are not read take.
-fn torn_count(rest: usize) -> u64
-    ensures { result ≡ (if rest == 0 then 0 else 1) }
-{
-    if rest == 0 { 0 } else { 1 }
 }
 
 impl Survey {
@@ -50,6 +43,7 @@ impl Survey {
         Survey {
             segments: Vec::new(alloc),
             done: 0,
+            bodies_end: 0,
             last_end: 0,
             size: 0,
             damaged: 0,
@@ -57,24 +51,37 @@ impl Survey {
         }
     }
 
-    /// Adds the next file.
+    /// Adds the next file. It is refused if the number is below the end of the bodies before it.
     fn add(&mut self, table: &CrcTable<Global>, number: u64, bytes: &[u8]) -> Result<(), SpoolError>
         requires { number < 2 ^ 63 }
-        ensures { OnOk result ((disk : Disk) (file : SpoolFile) → IsSurvey disk self.old
+        ensures survey { OnOk result ((disk : Disk) (file : SpoolFile) → IsSurvey disk self.old
             → file.number ≡ number → file.bytes ≡ bytes.now
             → IsSurvey (disk ++ file ∷ []) self.new) }
+        ensures overlap { IsErrOf result SpoolError.Overlap → (disk : Disk) (file : SpoolFile)
+            → IsSurvey disk self.old → file.number ≡ number → Rises (disk ++ file ∷ []) → ⊥ }
     {
+        if number < self.bodies_end {
+            return Err(SpoolError::Overlap);
+        }
         let records = scan(table, bytes);
         let len = bytes.len() as u64;
-        let end = number + records.bodies + torn_count(records.rest);
+        let rest = records.rest as u64;
+        let bodies_end = number + records.bodies;
+        let end = bodies_end + torn_count(records.rest);
         let Some(size) = self.size.checked_add(len) else {
             return Err(SpoolError::Full);
         };
-        let Some(damaged) = self.damaged.checked_add(records.rest as u64) else {
+        let Some(damaged) = self.damaged.checked_add(rest) else {
             return Err(SpoolError::Full);
         };
-        self.segments.push(Segment { number, end, len })?;
+        self.segments.push(Segment {
+            number,
+            end,
+            len,
+            rest,
+        })?;
         self.done = self.done.max(records.done);
+        self.bodies_end = self.bodies_end.max(bodies_end);
         self.last_end = self.last_end.max(end);
         self.size = size;
         self.damaged = damaged;
@@ -90,6 +97,8 @@ fn survey_all<D: Device>(
     table: &CrcTable<Global>,
 ) -> Result<Survey, SpoolError>
     ensures survey { IfOk result (λ survey. D.is_known → IsSurvey (D.files device.old) survey) }
+    ensures overlap { IsErrOf result SpoolError.Overlap → D.is_known
+        → Rises (D.files device.old) → ⊥ }
     ensures same { D.is_known → D.files device.new ≡ D.files device.old }
     ensures crash { D.is_known → LeavesOnly D.moment D.left_at device.old device.new
         (D.left_at device.old (D.moment device.old)) }
@@ -109,6 +118,8 @@ fn survey_synced<D: Device>(
     device: &mut D,
 ) -> Result<(CrcTable<Global>, Survey), SpoolError>
     ensures survey { IfOk result (λ x. D.is_known → IsSurvey (D.files device.old) x.1) }
+    ensures overlap { IsErrOf result SpoolError.Overlap → D.is_known
+        → Rises (D.files device.old) → ⊥ }
     ensures same { D.is_known → D.files device.new ≡ D.files device.old }
     ensures synced { OnOk result (D.is_known
         → Only (D.files device.new) (D.left_at device.new (D.moment device.new))) }
@@ -142,7 +153,9 @@ impl<D: Device> Spool<D> {
     ///
     /// # Errors
     ///
-    /// `Memory`, `Failed`; `Full` if the files have 2^64 bytes. The device is handed back.
+    /// `Memory`, `Failed`; `Full` if the files have 2^64 bytes; `Overlap` if the numbers of the
+    /// bodies of two files overlap, which no crash leaves. What isn't read at the end of a file
+    /// doesn't count there. The device is handed back, with its files as they were.
     pub fn open(
         alloc: Global,
         device: D,
@@ -156,6 +169,9 @@ impl<D: Device> Spool<D> {
         ensures damaged { IfOk result (λ opened. D.is_known
             → opened.damaged_bytes ≡ damaged_bytes (D.files device)) }
         ensures limit { IfOk result (λ opened. limit_of opened.spool ≡ limit) }
+        ensures overlap { IfErr result (λ e. e.0 ≡ SpoolError.Overlap → D.is_known
+            → Rises (D.files device) → ⊥) }
+        ensures files_err { IfErr result (λ e. D.is_known → D.files e.1 ≡ D.files device) }
         ensures crash { IfOk result (λ opened. D.is_known
             → LeavesOnly D.moment D.left_at device (device_of opened.spool)
             (D.left_at device (D.moment device))) }

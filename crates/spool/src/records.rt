@@ -1,6 +1,6 @@
 //! The records of a file: reading and writing them.
 ghost use Rattle.std.specs.Prelude.{◌≡◌, ℕ, ◌+◌, ◌-◌, ◌*◌, ◌^◌, ◌<◌, ◌≤◌, List, [], ◌∷◌, ◌++◌, length, take, drop};
-ghost use Rattle.std.specs.Prelude.{true, false, map, MatchOption, IfOk, OnOk, OnErr, IsErrOf, unwrap_or};
+ghost use Rattle.std.specs.Prelude.{true, false, if◌then◌else◌, ◌==◌, map, MatchOption, IfOk, OnOk, OnErr, IsErrOf, unwrap_or};
 ghost use Rattle.std.specs.Option.{option_len};
 ghost use Rattle.std.specs.List.{AllByRecursion};
 ghost use Rattle.std.specs.Int.{w32, from_le_bytes};
@@ -118,24 +118,48 @@ pub(crate) fn scan(table: &CrcTable<Global>, bytes: &[u8]) -> FileRecords
     }
 }
 
+/// The number that bytes which are not read take.
+pub(crate) fn torn_count(rest: usize) -> u64
+    ensures { result ≡ (if rest == 0 then 0 else 1) }
+{
+    if rest == 0 { 0 } else { 1 }
+}
+
+/// The bodies of a file but for the first ones, how many there are with these, and how many bytes
+/// are not read.
+#[derive(Drop)]
+pub(crate) struct FileBodies {
+    pub(crate) bodies: Vec<Vec<u8>>,
+    pub(crate) count: u64,
+    pub(crate) rest: usize,
+}
+
 /// The bodies of a file but for so many, the first ones.
 pub(crate) fn bodies_after(
     alloc: Global,
     table: &CrcTable<Global>,
     bytes: &[u8],
     skip: u64,
-) -> Result<Vec<Vec<u8>>, AllocError>
-    ensures { IfOk result (λ v. map (λ body. body.items) v.items
+) -> Result<FileBodies, AllocError>
+    ensures bodies { IfOk result (λ file. map (λ body. body.items) file.bodies.items
         ≡ drop skip (bodies (contents bytes.now))) }
+    ensures count { IfOk result (λ file. file.count ≡ length (bodies (contents bytes.now))) }
+    ensures rest { IfOk result (λ file. file.rest ≡ length (rest bytes.now)) }
 {
     let mut found = Vec::new(alloc);
+    let mut count: u64 = 0;
     let mut skip = skip;
     let mut left = bytes;
     while let Some((content, after)) = record_at(table, left) {
         skip = push_body(alloc, &mut found, content, skip)?;
+        count += body_count(content);
         left = after;
     }
-    Ok(found)
+    Ok(FileBodies {
+        bodies: found,
+        count,
+        rest: left.len(),
+    })
 }
 
 /// Keeps the body of a content, if it has one, unless it is to be skipped. Answers how many are

@@ -19,12 +19,14 @@ pub(crate) const MAX_NUMBER: u64 = 1 << 63;
 /// How many bytes a note takes.
 pub(crate) const NOTE_SIZE: u64 = 17;
 
-/// What a spool keeps of a file: its number, the number after those of its bodies, and its length.
+/// What a spool keeps of a file: its number, the number after those of its bodies, its length, and
+/// how many bytes at its end are not read.
 #[derive(Clone, Copy, Debug)]
 pub(crate) struct Segment {
     pub(crate) number: u64,
     pub(crate) end: u64,
     pub(crate) len: u64,
+    pub(crate) rest: u64,
 }
 
 /// The files in which bodies wait until they are delivered, over a device that keeps them.
@@ -75,6 +77,7 @@ fn grown_segment(growing: Option<Segment>, end: u64, len: u64) -> Option<Segment
             number: segment.number,
             end,
             len: segment.len.saturating_add(len),
+            rest: segment.rest,
         }),
         None => None,
     }
@@ -130,6 +133,7 @@ impl<D: Device> Spool<D> {
             number: self.next,
             end: self.next,
             len: 0,
+            rest: 0,
         });
         Ok(())
     }

@@ -2,8 +2,9 @@
 //! compares.
 ghost use Rattle.std.specs.Prelude.{◌≡◌, ◌++◌, ◌∷◌, [], take};
 ghost use Rattle.spool.specs.Records.{record_bytes, contents, rest};
-ghost use Rattle.spool.specs.Spools.{waiting, next_number, damaged_bytes};
+ghost use Rattle.spool.specs.Spools.{waiting, next_number, damaged_bytes, Rises, AreRising};
 ghost use Rattle.spool.specs.Examples.{first, second, note, flipped, old_file, torn_file, damaged_file};
+ghost use Rattle.spool.specs.Examples.{touching_file, torn_note_file, sixth_file};
 
 /// The bytes of records, and what is read of them: whole, cut short and damaged.
 pub fn records()
@@ -26,4 +27,15 @@ pub fn spools()
     ensures next { next_number (old_file ∷ torn_file ∷ []) ≡ 11 }
     ensures damaged { damaged_bytes (old_file ∷ torn_file ∷ damaged_file ∷ []) ≡ 31 }
     ensures later { next_number (old_file ∷ damaged_file ∷ []) ≡ 21 }
+{}
+
+/// Files whose numbers rise, and files whose numbers overlap; the same of bodies.
+pub fn rising()
+    ensures files { Rises (old_file ∷ torn_file ∷ touching_file ∷ []) }
+    ensures torn_note { Rises (torn_note_file ∷ sixth_file ∷ []) }
+    ensures overlap { Rises (old_file ∷ sixth_file ∷ []) → ⊥ }
+    ensures bodies { AreRising 6 10 ((6, 9 ∷ []) ∷ (9, 9 ∷ []) ∷ []) }
+    ensures twice { AreRising 6 10 ((6, 9 ∷ []) ∷ (6, 7 ∷ []) ∷ []) → ⊥ }
+    ensures early { AreRising 7 10 ((6, 9 ∷ []) ∷ (9, 9 ∷ []) ∷ []) → ⊥ }
+    ensures late { AreRising 6 9 ((6, 9 ∷ []) ∷ (9, 9 ∷ []) ∷ []) → ⊥ }
 {}

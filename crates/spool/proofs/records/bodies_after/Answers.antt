@@ -1,4 +1,4 @@
-use Rattle.std.proofs.Common.{◌≡◌, ℕ, zero, suc, refl, List, [], ap, sym, ◌∙◌, ◌++◌, map}
+use Rattle.std.proofs.Common.{◌≡◌, ℕ, zero, suc, refl, List, [], ap, sym, ◌∙◌, ◌++◌, map, length}
 use Rattle.std.proofs.Common.{drop, arith}
 use Rattle.std.proofs.lemmas.List.{append-nil}
 use Rattle.spool.specs.Records.{contents, bodies}
@@ -16,20 +16,41 @@ pub loop-content-preserved : goal.loop-content-preserved
 loop-content-preserved c =
     let h = c.in-Some.ensures in
     let a = adds c.loop-content.left.now c.in-Some.content.now c.in-Some.after.now h.0 h.1 h.2 in
-    c.in_ok-skip.ensures (contents c.in-Some.after.now)
-    ∙ (ap (λ (l : List (List ℕ)).
-    map (λ body. body.items) c.loop-content.found.items ++ drop c.loop-content.skip (bodies l))
-    (sym a.whole)
-    ∙ c.loop-content.invariant)
+    let i = c.loop-content.invariant in
+    record {
+      found_are =
+          c.in_ok-skip.ensures (contents c.in-Some.after.now)
+          ∙ (ap (λ (l : List (List ℕ)).
+          map (λ body. body.items) c.loop-content.found.items
+          ++ drop c.loop-content.skip (bodies l))
+          (sym a.whole)
+          ∙ i.found_are);
+      count_is = omega (arith, a.bodies_are, i.count_is, c.body_count-count.ensures);
+      rest_is = a.rest_is ∙ i.rest_is;
+      few = omega (arith, a.few, a.shorter, i.few, c.body_count-count.ensures);
+    }
+
+pub overflow_add-count : goal.overflow_add-count
+overflow_add-count c =
+    let h = c.in-Some.ensures in
+    let a = adds c.loop-content.left.now c.in-Some.content.now c.in-Some.after.now h.0 h.1 h.2 in
+    omega (arith, a.few, a.shorter, c.loop-content.invariant.few, c.body_count-count.ensures)
 
 pub returns : goal.returns
 returns c =
     let none = read-none c.loop-content.left.now c.in_default.ensures in
+    let i = c.loop-content.invariant in
     let found = map (λ body. body.items) c.loop-content.found.items in
-    sym (append-nil found)
-    ∙ (ap (λ (l : List (List ℕ)). found ++ l) (sym (drop-none c.loop-content.skip))
-    ∙ (ap (λ (l : List (List ℕ)). found ++ drop c.loop-content.skip (bodies l)) (sym none.0)
-    ∙ c.loop-content.invariant))
+    record {
+      bodies =
+          sym (append-nil found)
+          ∙ (ap (λ (l : List (List ℕ)). found ++ l) (sym (drop-none c.loop-content.skip))
+          ∙ (ap (λ (l : List (List ℕ)). found ++ drop c.loop-content.skip (bodies l))
+          (sym none.0)
+          ∙ i.found_are));
+      count = omega (arith, i.count_is, ap (λ (l : List (List ℕ)). length (bodies l)) none.0);
+      rest = ap length (sym none.1 ∙ i.rest_is);
+    }
   where
     drop-none : (n : ℕ) → ◌≡◌ {A = List (List ℕ)} (drop n []) []
     drop-none zero = refl

@@ -11,19 +11,20 @@ returns-in_err-make_open-clause-crash g c = λ known bodies is.
     let limit = c.args.self.now.limit in
     weaker g.D.Device.moment g.D.Device.left_at c.args.self.now.device c.make_open.new.self.device
     (IsSame disk) (LeftByPut disk bodies limit)
-    (λ left same. left-by-same disk left bodies limit same) (c.make_open.ensures.crash known)
+    (λ left same. left-by-same disk left bodies limit (c.requires.settled known).rises same)
+    (c.make_open.ensures.crash known)
 
 pub write-requires-clause-grows : goal.write-requires-clause-grows
 write-requires-clause-grows g c = λ known.
     let s = c.in_ok-make_open.ensures.settled known in
-    put-grows _ _ (c.in_ok-make_open.ensures.same known)
+    put-grows _ _ (c.requires.settled known).rises (c.in_ok-make_open.ensures.same known)
     (s.grows c.in_ok-make_open.ensures.is_open) (c.requires.is known).0 _ _ _ _
     (c.requires.is known).1 _ s.done
 
 pub returns-in_err-write-clause-crash : goal.returns-in_err-write-clause-crash
 returns-in_err-write-clause-crash g c = λ known bodies is.
     let s = c.in_ok-make_open.ensures.settled known in
-    put-leaves _ _ (c.in_ok-make_open.ensures.same known)
+    put-leaves _ _ (c.requires.settled known).rises (c.in_ok-make_open.ensures.same known)
     (s.grows c.in_ok-make_open.ensures.is_open) bodies _ _ _ _ is g.D.Device.moment
     g.D.Device.left_at
     _ _ _ (c.make_open.ensures.crash known) (c.write.ensures.crash known)
@@ -31,7 +32,7 @@ returns-in_err-write-clause-crash g c = λ known bodies is.
 pub returns-clause-crash : goal.returns-clause-crash
 returns-clause-crash g c = λ known bodies is.
     let s = c.in_ok-make_open.ensures.settled known in
-    put-leaves _ _ (c.in_ok-make_open.ensures.same known)
+    put-leaves _ _ (c.requires.settled known).rises (c.in_ok-make_open.ensures.same known)
     (s.grows c.in_ok-make_open.ensures.is_open) bodies _ _ _ _ is g.D.Device.moment
     g.D.Device.left_at
     _ _ _ (c.make_open.ensures.crash known) (c.write.ensures.crash known)
@@ -39,7 +40,7 @@ returns-clause-crash g c = λ known bodies is.
 pub returns-clause-waiting : goal.returns-clause-waiting
 returns-clause-waiting g c = λ known bodies is.
     let s = c.in_ok-make_open.ensures.settled known in
-    put-waiting _ _ (c.in_ok-make_open.ensures.same known)
+    put-waiting _ _ (c.requires.settled known).rises (c.in_ok-make_open.ensures.same known)
     (s.grows c.in_ok-make_open.ensures.is_open) bodies _ _ _ _ is _ _
     (c.in_ok-write.ensures.written known) (c.requires.settled known).next
 
@@ -50,7 +51,7 @@ returns-clause-bound g c = λ known.
     let now = g.D.Device.files c.make_open.new.self.device in
     let (bodies, is) = c.requires.is known in
     let within =
-    put-bound disk now (c.in_ok-make_open.ensures.same known)
+    put-bound disk now (c.requires.settled known).rises (c.in_ok-make_open.ensures.same known)
     (s.grows c.in_ok-make_open.ensures.is_open) bodies _ _ _ _ is _
     (c.in_ok-write.ensures.written known) in
     omega (arith, within, c.in_ok-write.ensures.limit, c.in_ok-make_open.ensures.limit)

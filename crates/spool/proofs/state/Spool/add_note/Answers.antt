@@ -10,18 +10,19 @@ returns-in_err-make_open-clause-crash g c = λ known.
     let disk = g.D.Device.files c.args.self.now.device in
     weaker g.D.Device.moment g.D.Device.left_at c.args.self.now.device c.make_open.new.self.device
     (IsSame disk) (LeftByNote disk c.args.number)
-    (λ left same. left-by-same disk left c.args.number same) (c.make_open.ensures.crash known)
+    (λ left same. left-by-same disk left c.args.number (c.requires.settled known).rises same)
+    (c.make_open.ensures.crash known)
 
 pub write-requires-clause-grows : goal.write-requires-clause-grows
 write-requires-clause-grows g c = λ known.
     let s = c.in_ok-make_open.ensures.settled known in
-    note-grows _ _ (c.in_ok-make_open.ensures.same known)
+    note-grows _ _ (c.requires.settled known).rises (c.in_ok-make_open.ensures.same known)
     (s.grows c.in_ok-make_open.ensures.is_open) _ _ _ (c.requires.is known) _ s.next
 
 pub returns-in_err-write-clause-crash : goal.returns-in_err-write-clause-crash
 returns-in_err-write-clause-crash g c = λ known.
     let s = c.in_ok-make_open.ensures.settled known in
-    note-leaves _ _ (c.in_ok-make_open.ensures.same known)
+    note-leaves _ _ (c.requires.settled known).rises (c.in_ok-make_open.ensures.same known)
     (s.grows c.in_ok-make_open.ensures.is_open) _ _ _
     (c.requires.is known) g.D.Device.moment g.D.Device.left_at
     _ _ _ (c.make_open.ensures.crash known) (c.write.ensures.crash known)
@@ -29,7 +30,7 @@ returns-in_err-write-clause-crash g c = λ known.
 pub returns-clause-crash : goal.returns-clause-crash
 returns-clause-crash g c = λ known.
     let s = c.in_ok-make_open.ensures.settled known in
-    note-leaves _ _ (c.in_ok-make_open.ensures.same known)
+    note-leaves _ _ (c.requires.settled known).rises (c.in_ok-make_open.ensures.same known)
     (s.grows c.in_ok-make_open.ensures.is_open) _ _ _
     (c.requires.is known) g.D.Device.moment g.D.Device.left_at
     _ _ _ (c.make_open.ensures.crash known) (c.write.ensures.crash known)
@@ -37,20 +38,20 @@ returns-clause-crash g c = λ known.
 pub returns-clause-noted : goal.returns-clause-noted
 returns-clause-noted g c = λ known.
     let s = c.in_ok-make_open.ensures.settled known in
-    note-newest _ _ (c.in_ok-make_open.ensures.same known)
+    note-newest _ _ (c.requires.settled known).rises (c.in_ok-make_open.ensures.same known)
     (s.grows c.in_ok-make_open.ensures.is_open) _ _ _ (c.requires.is known) _
     (c.in_ok-write.ensures.written known)
 
 pub returns-clause-waiting : goal.returns-clause-waiting
 returns-clause-waiting g c = λ known.
     let s = c.in_ok-make_open.ensures.settled known in
-    note-waiting _ _ (c.in_ok-make_open.ensures.same known)
+    note-waiting _ _ (c.requires.settled known).rises (c.in_ok-make_open.ensures.same known)
     (s.grows c.in_ok-make_open.ensures.is_open) _ _ _ (c.requires.is known) _
     (c.in_ok-write.ensures.written known)
 
 pub returns-clause-sized : goal.returns-clause-sized
 returns-clause-sized g c = λ known.
     let s = c.in_ok-make_open.ensures.settled known in
-    note-sized _ _ (c.in_ok-make_open.ensures.same known)
+    note-sized _ _ (c.requires.settled known).rises (c.in_ok-make_open.ensures.same known)
     (s.grows c.in_ok-make_open.ensures.is_open) _ _ _ (c.requires.is known) _
     (c.in_ok-write.ensures.written known)

@@ -1,8 +1,9 @@
-use Rattle.std.proofs.Common.{◌≡◌, ℕ, ap, ◌∙◌, List, ◌++◌, ◌-◌, max, drop}
-use Rattle.std.specs.Prelude.{Some, slice_get, option_map}
+use Rattle.std.proofs.Common.{◌≡◌, ℕ, ap, ap₂, ◌∙◌, List, ◌++◌, ◌-◌, max, drop}
+use Rattle.std.specs.Prelude.{Some, slice_get}
 use Rattle.std.specs.Option.{option_to_list}
 use Rattle.spool.specs.Records.{contents, bodies}
 use Rattle.spool.specs.Spools.{done_to}
+use Rattle.spool.specs.Settled.{segment_of}
 use Rattle.spool.specs.declared.state.Segment.{Segment}
 use Rattle.spool.proofs.SurveyLaws.{segment-at, bodies-waiting}
 use Rattle.spool.proofs.state.Spool.bodies.Goals as goal
@@ -17,17 +18,17 @@ returns-clause-bodies g c = λ known file at.
     let found =
     ap (λ (l : List Segment). slice_get l c.args.index) segments
     ∙ segment-at disk c.args.index file at in
-    let some : Some c.in-Some.number ≡ Some file.number =
-    c.in-Some.ensures ∙ ap (option_map (λ (x : Segment). x.number)) found in
-    let number : c.in-Some.number ≡ file.number = cc in
-    let skip : c.saturating_sub-skip.result ≡ done_to disk - file.number =
-    c.saturating_sub-skip.ensures
-    ∙ (ap (λ (n : ℕ). n - c.in-Some.number) s.done ∙ ap (λ (n : ℕ). done_to disk - n) number) in
-    let first : c.max.result ≡ max file.number (done_to disk) =
-    c.max.ensures
-    ∙ (ap (λ (n : ℕ). max c.in-Some.number n) s.done
-    ∙ ap (λ (n : ℕ). max n (done_to disk)) number) in
+    let some : Some c.in-Some.segment ≡ Some (segment_of file) = c.in-Some.ensures ∙ found in
+    let same : c.in-Some.segment ≡ segment_of file = cc in
+    let number : c.in-Some.segment.number ≡ file.number = ap (λ (x : Segment). x.number) same in
+    let start : c.max-start.result ≡ max (done_to disk) c.args.from =
+    c.max-start.ensures ∙ ap (λ (n : ℕ). max n c.args.from) s.done in
+    let skip : c.saturating_sub-skip.result ≡ max (done_to disk) c.args.from - file.number =
+    c.saturating_sub-skip.ensures ∙ ap₂ (λ (n : ℕ) (m : ℕ). n - m) start number in
+    let first : c.max.result ≡ max file.number (max (done_to disk) c.args.from) =
+    c.max.ensures ∙ ap₂ (λ (n : ℕ) (m : ℕ). max n m) number start in
     let bytes = c.deref-2.ensures.value ∙ c.in_ok-bytes.ensures.bytes known file at in
-    bodies-waiting (done_to disk) c.max.result c.saturating_sub-skip.result file _ skip first
-    (c.in_ok-bodies.ensures
+    bodies-waiting (max (done_to disk) c.args.from) c.max.result c.saturating_sub-skip.result file _
+    skip first
+    (c.in_ok-bodies.ensures.bodies
     ∙ ap (λ (l : List ℕ). drop c.saturating_sub-skip.result (bodies (contents l))) bytes)

@@ -16,14 +16,14 @@ returns-then-noted-self-clause-crash g c = λ known.
     started g.D.Device.moment g.D.Device.left_at c.args.self.now.device
     (LeftByNote (g.D.Device.files c.args.self.now.device) c.args.number)
     (λ left was. left-by-none (g.D.Device.files c.args.self.now.device) left c.args.number
-    ((c.requires known).durable left was))
+    (c.requires known).rises ((c.requires known).durable left was))
 
 pub returns-in_err-bytes-clause-crash : goal.returns-in_err-bytes-clause-crash
 returns-in_err-bytes-clause-crash g c = λ known.
     started g.D.Device.moment g.D.Device.left_at c.args.self.now.device
     (LeftByNote (g.D.Device.files c.args.self.now.device) c.args.number)
     (λ left was. left-by-none (g.D.Device.files c.args.self.now.device) left c.args.number
-    ((c.requires known).durable left was))
+    (c.requires known).rises ((c.requires known).durable left was))
 
 pub returns-in_err-add_note-clause-crash : goal.returns-in_err-add_note-clause-crash
 returns-in_err-add_note-clause-crash g c = λ known.
@@ -45,7 +45,7 @@ returns-in_err-remove_done-clause-crash g c = λ known.
     (c.min-noted.ensures ∙ ap (λ (n : ℕ). min c.args.number n) was.next)
     (note-room disk _ _ _ (c.in_ok-bytes.ensures.is known)) (c.add_note.ensures.crash known)
     (c.in_ok-add_note.ensures.waiting known) (c.in_ok-add_note.ensures.sized known)
-    (c.remove_done.ensures.crash known)
+    (c.in_ok-add_note.ensures.settled known).rises (c.remove_done.ensures.crash known)
 
 pub returns-clause-crash : goal.returns-clause-crash
 returns-clause-crash g c = λ known.
@@ -57,7 +57,7 @@ returns-clause-crash g c = λ known.
     (c.min-noted.ensures ∙ ap (λ (n : ℕ). min c.args.number n) was.next)
     (note-room disk _ _ _ (c.in_ok-bytes.ensures.is known)) (c.add_note.ensures.crash known)
     (c.in_ok-add_note.ensures.waiting known) (c.in_ok-add_note.ensures.sized known)
-    (c.remove_done.ensures.crash known)
+    (c.in_ok-add_note.ensures.settled known).rises (c.remove_done.ensures.crash known)
 
 pub returns-clause-waiting : goal.returns-clause-waiting
 returns-clause-waiting g c = λ known.
@@ -78,3 +78,9 @@ returns-clause-bound g c = λ known.
     (sym last.next
     ∙ (c.in_ok-remove_done.ensures.next ∙ (c.in_ok-add_note.ensures.next known ∙ was.next)))
     (sym last.done ∙ (c.in_ok-remove_done.ensures.done ∙ c.in_ok-add_note.ensures.done))
+
+pub returns-clause-next : goal.returns-clause-next
+returns-clause-next g c = λ known.
+    sym (c.in_ok-remove_done.ensures.settled known).next
+    ∙ (c.in_ok-remove_done.ensures.next
+    ∙ (c.in_ok-add_note.ensures.next known ∙ (c.requires known).next))

@@ -1,5 +1,5 @@
 use Rattle.spool.specs.Settled.{IsSettled}
-use Rattle.test_spool.proofs.tests.files.listed.Given as goal
+use Rattle.test_spool.proofs.tests.files.listed_from.Given as goal
 
 abbrev pub invariant-loop-index : goal.invariant-loop-index
 invariant-loop-index g l =
