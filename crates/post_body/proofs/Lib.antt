@@ -1,2 +1,3 @@
 mod Contents
+mod ReadingSizes
 mod Refusals

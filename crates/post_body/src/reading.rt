@@ -8,7 +8,7 @@ ghost use Rattle.otlp_read.specs.Requests.{request_view};
 ghost use Rattle.post_body.specs.Reads.{IsUnread, is_above, size_of_content, unread_by};
 
 use otlp_read::{ReadFault, Request, read_request};
-use std::alloc::Global;
+use std::alloc::Allocator;
 use trace_store::request_size;
 
 /// Why a body isn't read.
@@ -30,12 +30,12 @@ fn unread_by(fault: ReadFault) -> Unread
     }
 }
 
-/// The request that a content means, or why it isn't read.
+/// The request that a content means, in memory of this allocator, or why it isn't read.
 ///
 /// # Errors
 ///
 /// `Unread` where the content has a fault, or memory was refused.
-pub fn read_content(alloc: Global, content: &[u8]) -> Result<Request, Unread>
+pub fn read_content<A: Allocator + Copy>(alloc: A, content: &[u8]) -> Result<Request<A>, Unread>
     ensures read { IfOk result (λ request.
         Reads (meaning Tables.request content.now) (request_view request)) }
     ensures unread { IfErr result (IsUnread content.now) }
@@ -53,9 +53,21 @@ pub fn size_of_content(content: &[u8]) -> u64
     request_size(content)
 }
 
+/// The reading of a content takes at most this many bytes of memory for each byte of the content.
+/// A span takes most beside what is kept of its fields: 768 bytes, and its field in the content
+/// takes two bytes at least, a tag and a length.
+const MOST_FOR_BYTE: u64 = 384;
+
 /// Whether the reading of a content takes more bytes of memory than may still be pending.
+///
+/// Where there is room for the most that a content of this length takes, it isn't looked into.
+/// Otherwise this goes over the content once.
 pub fn is_above(content: &[u8], room: usize) -> bool
     ensures { result ≡ is_above content.now room }
 {
+    let most = (content.len() as u64).saturating_mul(MOST_FOR_BYTE);
+    if most <= room as u64 {
+        return false;
+    }
     size_of_content(content) > room as u64
 }
