@@ -1,4 +1,4 @@
 mod Answered
 mod Answering
-mod Counted
+pub mod Counted
 mod Unchanged

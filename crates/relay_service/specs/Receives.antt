@@ -1,6 +1,6 @@
 -- What becomes of a request to receive spans: it is answered 200 where its content was kept, byte
 -- for byte, and only there. (OTLP Specification, OTLP/HTTP Request and OTLP/HTTP Response)
-use Rattle.std.specs.Prelude.{◌≡◌, ℕ, true, false, Bool, List, Option, Some, None}
+use Rattle.std.specs.Prelude.{◌≡◌, ◌⊎◌, ℕ, true, false, Bool, List, Option, Some, None}
 use Rattle.otlp_serve.specs.Posts.{HttpPost}
 use Rattle.http_connection.specs.declared.reply.denial.Denial.{Denial}
 use Rattle.http_connection.specs.declared.reply.denial.Denial.TheVariants as denials
@@ -59,6 +59,11 @@ module _ {K : Type 0} (keeps : Keeping K) (lacks_room : Lacking K) (fails : Keep
         → Receives most post room outcome new
     received : (content : List ℕ) → HasContent most post content
         → ReceivesContent content room outcome new → Receives most post room outcome new
+
+-- Nothing was changed, or the content of a post was collected, to be kept together with others.
+abbrev pub Collects : {K : Type 0} → Keeping K → K → ℕ → HttpPost → K → Type 0
+Collects collects_body old most post new = (new ≡ old)
+    ⊎ ((content : List ℕ) × HasContent most post content × collects_body old content new)
 
 -- why a post is refused, where it is
 abbrev pub denial_of : Outcome → Option Denial

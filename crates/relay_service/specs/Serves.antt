@@ -1,5 +1,5 @@
 -- What the service does for a connection.
-use Rattle.std.specs.Prelude.{◌≡◌, ℕ, ◌||◌, Bool, true, false, List, Option, Some, None}
+use Rattle.std.specs.Prelude.{◌≡◌, ◌⊎◌, ℕ, ◌||◌, Bool, true, false, List, Option, Some, None}
 use Rattle.http.specs.Request.{head_of}
 use Rattle.http.specs.declared.request.Parts.{Parts as Head}
 use Rattle.http.specs.declared.request.Request.{Request as HttpRequest}
@@ -15,7 +15,8 @@ use Rattle.http_connection.specs.Tallies.{CountsAnswer, Tally}
 use Rattle.http_connection.specs.declared.reply.denial.Denial.{Denial}
 use Rattle.http_connection.specs.declared.reply.denial.Denial.TheVariants as denials
 use Rattle.post_body.specs.Posts.{IsAnswer, post_of}
-use Rattle.relay_service.specs.Receives.{Keeping, Lacking, Receives, denial_of, is_failure}
+use Rattle.relay_service.specs.Receives.{Collects, Keeping, Lacking, Receives, denial_of}
+use Rattle.relay_service.specs.Receives.{is_failure}
 use Rattle.relay_service.specs.Shows.{AnswersPage, Naming, Reporting}
 use Rattle.relay_service.specs.declared.receive.Outcome.{Outcome}
 use Rattle.relay_service.specs.declared.service.NoPieces.{NoPieces}
@@ -56,6 +57,19 @@ pub record IsBeside {K : Type 0} (old new : RelayService K) : Type 0 where
   pub hosts : hosts_of new ≡ hosts_of old
   pub max_body : max_body_of new ≡ max_body_of old
   pub failed : failed_of new ≡ failed_of old
+
+-- A request was shown, of which what keeps the bodies may have collected the content.
+pub record GathersFor {K : Type 0} (collects_body : Keeping K) (old : RelayService K)
+    (request : HttpRequest (List ℕ)) (new : RelayService K) : Type 0 where
+  pub beside : IsBeside old new
+  pub collects : Collects collects_body (keeper_of old) (max_body_of old) (post_of request)
+      (keeper_of new)
+
+-- What keeps the bodies may have kept those that it had collected.
+pub record SettlesBy {K : Type 0} (keeps_collected : K → K → Type 0) (old new : RelayService K)
+    : Type 0 where
+  pub beside : IsBeside old new
+  pub keeps : (keeper_of new ≡ keeper_of old) ⊎ keeps_collected (keeper_of old) (keeper_of new)
 
 -- what keeps the bodies is as it was, and has failed to if it had before
 abbrev pub IsAsBefore : {K : Type 0} → RelayService K → RelayService K → Type 0

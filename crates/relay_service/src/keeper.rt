@@ -1,6 +1,6 @@
 //! What keeps received bodies.
 
-ghost use Rattle.std.specs.Prelude.{◌≡◌, ◌≤◌, ℕ, IfOk, IsErrOf, IsFalse, IsTrue, List, OnOk};
+ghost use Rattle.std.specs.Prelude.{◌≡◌, ◌⊎◌, ◌≤◌, ℕ, IfOk, IsErrOf, IsFalse, IsTrue, List, OnOk};
 ghost use Rattle.std.specs.Prelude.{length, map, ⊤};
 ghost use Rattle.model_body.specs.Names.{IsReadable, spans_in};
 ghost use Rattle.relay_service.specs.Lost.{lost_view};
@@ -35,6 +35,14 @@ pub trait BodyKeeper {
     // From the first state, it failed to keep this body, and the second state is left.
     ghost fails: { Self → List ℕ → Self → Type 0 };
 
+    // From the first state, this body was collected, to be kept together with others, and the second
+    // state is left. An `impl` that collects says so.
+    ghost collects_body: { Self → List ℕ → Self → Type 0 } = { λ _ _ _. ⊥ };
+
+    // From the first state, the bodies that were collected were kept together, or none of them was,
+    // and the second state is left. An `impl` that collects says so.
+    ghost keeps_collected: { Self → Self → Type 0 } = { λ _ _. ⊥ };
+
     // In this state, this may be reported of it. An `impl` says so, if it can say that.
     ghost reports: { Self → Report → Type 0 } = { λ _ _. ⊤ };
 
@@ -66,12 +74,15 @@ pub trait BodyKeeper {
     fn collect(&mut self, body: Vec<u8>, spans: usize)
         requires readable { IsReadable body.items }
         requires spans { spans ≡ length (spans_in body.items) }
+        ensures collected { (self.new ≡ self.old) ⊎ collects_body self.old body.items self.new }
     {
         let _ = (body, spans);
     }
 
     /// Keeps the bodies that it has collected since the last call, all of them or none.
-    fn keep_collected(&mut self) {}
+    fn keep_collected(&mut self)
+        ensures kept { (self.new ≡ self.old) ⊎ keeps_collected self.old self.new }
+    {}
 
     /// Whether a body of these bytes was kept by the last `keep_collected`, and wasn't recalled
     /// since as often as it was kept.

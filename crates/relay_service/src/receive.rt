@@ -1,17 +1,18 @@
 //! Requests to receive spans.
 
-ghost use Rattle.std.specs.Prelude.{◌≡◌, ◌||◌, IfErr, IfOk, OnErr, OnOk, Some, length};
+ghost use Rattle.std.specs.Prelude.{◌≡◌, ◌⊎◌, ◌||◌, IfErr, IfOk, OnErr, OnOk, Some, length};
 ghost use Rattle.http_server.specs.Response.{IsBlank};
 ghost use Rattle.http_connection.specs.Denials.{IsSuccess};
 ghost use Rattle.model_body.specs.Names.{IsReadable, spans_in};
 ghost use Rattle.post_body.specs.Posts.{IsAnswer, post_of};
 ghost use Rattle.post_body.specs.Reads.{IsUnread};
-ghost use Rattle.relay_service.specs.Receives.{Keeps, Receives, ReceivesContent, denial_of};
+ghost use Rattle.relay_service.specs.Receives.{Collects, Keeps, Receives, ReceivesContent, denial_of};
 ghost use Rattle.relay_service.specs.Receives.{is_failure};
 ghost use Rattle.http.specs.Request.{head_of};
 ghost use Rattle.http_connection.specs.Requests.{denial_format};
 
 use crate::keeper::{BodyKeeper, KeepFault};
+use bumpalo::Bump;
 use bytes::Bytes;
 use http::Request;
 use http_connection::reply::{
@@ -19,7 +20,14 @@ use http_connection::reply::{
 };
 use http_server::Response;
 use post_body::{Undecoded, Unread, content_in, is_above, read_content};
-use std::alloc::{AllocError, Global};
+use std::alloc::{AllocError, Allocator, Global};
+
+/// How many bytes the first block of an arena has for each byte of the content that is read there.
+/// (profile)
+const ARENA_FOR_BYTE: usize = 16;
+
+/// How many bytes it has at most. (profile)
+const ARENA_MOST: usize = 1 << 20;
 
 /// What became of a post.
 #[derive(Clone, Copy, Debug, PartialEq, Eq)]
@@ -32,8 +40,8 @@ pub(crate) enum Outcome {
     Failed,
 }
 
-/// How many spans a content has, or why it isn't read.
-fn count_spans(alloc: Global, content: &[u8]) -> Result<usize, Unread>
+/// How many spans a content has, or why it isn't read, in memory of this allocator.
+fn count_in<A: Allocator + Copy>(alloc: A, content: &[u8]) -> Result<usize, Unread>
     ensures readable { OnOk result (IsReadable content.now) }
     ensures count { IfOk result (λ count. count ≡ length (spans_in content.now)) }
     ensures unread { IfErr result (IsUnread content.now) }
@@ -46,6 +54,20 @@ fn count_spans(alloc: Global, content: &[u8]) -> Result<usize, Unread>
         Ok(spans) => Ok(spans.as_slice().len()),
         Err(_) => Err(Unread::OutOfMemory),
     }
+}
+
+/// How many spans a content has, or why it isn't read. It is read in an arena, so that all that it
+/// is read as is freed at once.
+fn count_spans(alloc: Global, content: &[u8]) -> Result<usize, Unread>
+    ensures readable { OnOk result (IsReadable content.now) }
+    ensures count { IfOk result (λ count. count ≡ length (spans_in content.now)) }
+    ensures unread { IfErr result (IsUnread content.now) }
+{
+    let room = content.len().saturating_mul(ARENA_FOR_BYTE).min(ARENA_MOST);
+    let Ok(arena) = Bump::try_with_capacity(alloc, room) else {
+        return Err(Unread::OutOfMemory);
+    };
+    count_in(&arena, content)
 }
 
 /// A copy of a content.
@@ -144,21 +166,26 @@ fn keep_post<K: BodyKeeper>(
 fn collect_copy<K: BodyKeeper>(alloc: Global, keeper: &mut K, content: &[u8], spans: usize)
     requires readable { IsReadable content.now }
     requires spans { spans ≡ length (spans_in content.now) }
+    ensures { (keeper.new ≡ keeper.old) ⊎ K.collects_body keeper.old content.now keeper.new }
 {
-    if let Ok(body) = copy_of(alloc, content) {
-        keeper.collect(body, spans);
-    }
+    let Ok(body) = copy_of(alloc, content) else {
+        return;
+    };
+    keeper.collect(body, spans);
 }
 
 /// Collects the content of a post, if it is read, where so many bytes may still be pending.
-fn collect_content<K: BodyKeeper>(alloc: Global, keeper: &mut K, content: &[u8], room: usize) {
+fn collect_content<K: BodyKeeper>(alloc: Global, keeper: &mut K, content: &[u8], room: usize)
+    ensures { (keeper.new ≡ keeper.old) ⊎ K.collects_body keeper.old content.now keeper.new }
+{
     let has_room = !is_above(content, room);
     if !has_room {
         return;
     }
-    if let Ok(spans) = count_spans(alloc, content) {
-        collect_copy(alloc, keeper, content, spans);
-    }
+    let Ok(spans) = count_spans(alloc, content) else {
+        return;
+    };
+    collect_copy(alloc, keeper, content, spans);
 }
 
 /// Collects what a request carries, if it is a post of spans, whose content may have at most `most`
@@ -170,7 +197,9 @@ pub(crate) fn collect<K: BodyKeeper>(
     request: &Request<Bytes>,
     most: usize,
     room: usize,
-) {
+)
+    ensures { Collects K.collects_body keeper.old most (post_of request.now) keeper.new }
+{
     match content_in(alloc, request, most) {
         Ok(None) => collect_content(alloc, keeper, request.body().as_slice(), room),
         Ok(Some(content)) => collect_content(alloc, keeper, content.as_slice(), room),

@@ -242,11 +242,11 @@ impl<K: BodyKeeper> Service for RelayService<K> {
 }
 
 impl<K: BodyKeeper> Gathers for RelayService<K> {
-    ghost use Rattle.relay_service.specs.Serves.{IsBeside};
+    ghost use Rattle.relay_service.specs.Serves.{GathersFor, SettlesBy};
 
-    ghost gathers = { λ old _ new. IsBeside old new };
+    ghost gathers = { λ old request new. GathersFor K.collects_body old request new };
 
-    ghost settles = { λ old new. IsBeside old new };
+    ghost settles = { λ old new. SettlesBy K.keeps_collected old new };
 
     fn gather(&mut self, request: &Request<Bytes>, room: usize) {
         if self.keeper.collects() {
