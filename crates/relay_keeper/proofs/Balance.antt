@@ -1,8 +1,8 @@
 -- What three accounts come to.
 use Rattle.std.proofs.Common.{◌≡◌, refl, sym, ap, subst, ◌∙◌, ℕ, ◌+◌, arith, List, [], ◌∷◌, Bool}
-use Rattle.std.proofs.Common.{true, false, ◌++◌, cond}
+use Rattle.std.proofs.Common.{true, false, ◌++◌, ◌-◌, ◌≤◌, cond, length}
 use Rattle.std.specs.Prelude.{map, filter, not, if◌then◌else◌, flat_map, sum_by, count_by, Contains}
-use Rattle.std.specs.Prelude.{Option}
+use Rattle.std.specs.Prelude.{Option, ◌||◌}
 use Rattle.std.proofs.lemmas.List.Sums.{sum_by-append, sum_by-cons}
 use Rattle.model_message.specs.Messages.{Triple}
 use Rattle.model_desk.specs.Retries.{Fate}
@@ -10,10 +10,13 @@ use Rattle.model_desk.specs.Desks.{is_loss}
 use Rattle.model_body.specs.Names.{spans_in}
 use Rattle.model_body.specs.Laws.{span_count}
 use Rattle.model_body.specs.Desks.{BodyDesk}
+use Rattle.body_keeping.specs.Kept.{Kept, kept_count, remaining_in}
 use Rattle.relay_keeper.specs.Accounts.{Said, Sent, posts, sends, closes, posted_in, sent_in}
 use Rattle.relay_keeper.specs.Accounts.{closed_in, given_up}
-use Rattle.relay_keeper.specs.Agreement.{Agrees, AreKnown, came_of}
-use Rattle.relay_keeper.specs.Balances.{Balances, delivered_in, lost_in}
+use Rattle.spool_device.specs.Disks.{Disk}
+use Rattle.relay_keeper.specs.declared.holdings.Holdings.{Holdings}
+use Rattle.relay_keeper.specs.Agreement.{Agrees, AreInOrder, AreKnown, IsInOrder, came_of}
+use Rattle.relay_keeper.specs.Balances.{Balances, SpoolBalances, delivered_in, lost_in}
 use Rattle.relay_keeper.proofs.Book.{three, posts-in, sends-in, closes-in}
 
 -- ---- what is added up
@@ -59,18 +62,45 @@ sum-ways f (x ∷ ended) =
 
 -- ---- the balance
 
-balance-of : (desk : BodyDesk) (spooled closed : Bool) (p : List (List ℕ)) (s : Sent)
-    (g : Option (List (List ℕ))) → Agrees desk spooled closed p s g → Balances spooled p s g
-balance-of desk spooled closed p s g a = record {
+spool-balance : (kept : ℕ) (p : List (List ℕ)) (s : Sent) (waits : List (List ℕ))
+    → length waits ≤ kept → AreInOrder p s waits → SpoolBalances kept p s
+spool-balance kept p s waits few o = record {
+  waits = waits;
+  few = few;
+  in_order = o;
+  spans = λ is_it.
+      omega (
+        arith,
+        ap (sum_by (spans-of is_it)) o,
+        sum_by-append (spans-of is_it) s.at_start p,
+        sum_by-append (spans-of is_it) (firsts s.ended) waits,
+        sum-ways (spans-of is_it) s.ended,
+        sum-spans is_it s.at_start,
+        sum-spans is_it p,
+        sum-spans is_it (delivered_in s),
+        sum-spans is_it (lost_in s),
+        sum-spans is_it waits,
+      );
+}
+
+balance-of : (known : Type 0) (h : Holdings) (desk : BodyDesk) (closed : Bool)
+    (p : List (List ℕ)) (s : Sent) (g : Option (List (List ℕ)))
+    → Agrees desk h.is_spooled closed p s g
+    → (h.is_spooled ≡ false → h.kept ≡ length desk.kept)
+    → (known → h.is_spooled ≡ true → h.has_ever_failed ≡ false → SpoolBalances h.kept p s)
+    → Balances known h p s g
+balance-of known h desk closed p s g a in_memory in_spool = record {
   desk = desk;
   is_closed = closed;
   agrees = a;
+  in_memory = in_memory;
+  in_spool = in_spool;
   spans = λ is_it.
       omega (
         arith,
         a.adds_up (spans-of is_it),
         sum-ways (spans-of is_it) s.ended,
-        sum-spans is_it (came_of spooled p s),
+        sum-spans is_it (came_of h.is_spooled p s),
         sum-spans is_it (delivered_in s),
         sum-spans is_it (lost_in s),
         sum-spans is_it s.returned,
@@ -79,12 +109,30 @@ balance-of desk spooled closed p s g a = record {
       );
 }
 
+-- What is known of what is kept, as a balance answers it.
+pub record Holds {D : Type 0} (known : Type 0) (files : D → Disk) (kept : Kept D)
+    (is_reopened : Bool) (h : Holdings) : Type 0 where
+  pub spooled : h.is_spooled ≡ kept.is_spooled
+  pub failed : h.has_ever_failed ≡ false → kept.has_failed ≡ false
+  pub once : h.has_ever_failed ≡ false → is_reopened ≡ false
+  pub count : h.kept ≡ kept_count kept
+  pub few : known → kept.is_spooled ≡ true → kept.has_failed ≡ false
+      → length (remaining_in files kept) ≤ h.kept
+
+-- A spool that never failed wasn't opened again, and hasn't failed.
+pub never-failed : (again failed : Bool) → (again || failed) ≡ false
+    → (again ≡ false) × (failed ≡ false)
+never-failed true failed e = absurd (cc)
+never-failed false failed e = (refl, e)
+
 -- Three accounts of a book are balanced.
-pub balances : (desk : BodyDesk) (spooled closed : Bool) (book : List Said) (p s c : Said)
-    → AreKnown desk spooled closed book → p ≡ posts (posted_in p) → s ≡ sends (sent_in s)
+pub balances : {D : Type 0} (known : Type 0) (files : D → Disk) (kept : Kept D)
+    (closed reopened : Bool) (h : Holdings) (book : List Said) (p s c : Said)
+    → AreKnown kept.desk kept.is_spooled closed (IsInOrder known files kept reopened) book
+    → Holds known files kept reopened h → p ≡ posts (posted_in p) → s ≡ sends (sent_in s)
     → c ≡ closes (closed_in c) → Contains book p → Contains book s → Contains book c
-    → Balances spooled (posted_in p) (sent_in s) (closed_in c)
-balances desk spooled closed book p s c k is-p is-s is-c in-p in-s in-c =
+    → Balances known h (posted_in p) (sent_in s) (closed_in c)
+balances known files kept closed reopened h book p s c k held is-p is-s is-c in-p in-s in-c =
     let all = three k.posted k.sent k.gave in
     let first : posted_in p ≡ k.posted =
     posts-in k.posted k.sent k.gave (posted_in p)
@@ -95,7 +143,25 @@ balances desk spooled closed book p s c k is-p is-s is-c in-p in-s in-c =
     let third : closed_in c ≡ k.gave =
     closes-in k.posted k.sent k.gave (closed_in c)
     (subst (λ v. Contains all v) is-c (subst (λ l. Contains l c) k.book_is in-c)) in
-    balance-of desk spooled closed (posted_in p) (sent_in s) (closed_in c)
-    (subst (λ b. Agrees desk spooled closed b (sent_in s) (closed_in c)) (sym first)
-    (subst (λ t. Agrees desk spooled closed k.posted t (closed_in c)) (sym second)
-    (subst (λ g. Agrees desk spooled closed k.posted k.sent g) (sym third) k.agrees)))
+    let agrees : Agrees kept.desk h.is_spooled closed (posted_in p) (sent_in s) (closed_in c) =
+    subst (λ b. Agrees kept.desk b closed (posted_in p) (sent_in s) (closed_in c))
+    (sym held.spooled)
+    (subst (λ b. Agrees kept.desk kept.is_spooled closed b (sent_in s) (closed_in c)) (sym first)
+    (subst (λ t. Agrees kept.desk kept.is_spooled closed k.posted t (closed_in c)) (sym second)
+    (subst (λ g. Agrees kept.desk kept.is_spooled closed k.posted k.sent g) (sym third)
+    k.agrees))) in
+    let ordered : IsInOrder known files kept reopened (posted_in p) (sent_in s) =
+    subst (λ b. IsInOrder known files kept reopened b (sent_in s)) (sym first)
+    (subst (λ t. IsInOrder known files kept reopened k.posted t) (sym second) k.in_order) in
+    balance-of known h kept.desk closed (posted_in p) (sent_in s) (closed_in c) agrees
+    (λ is. held.count ∙ counted kept.is_spooled (sym held.spooled ∙ is))
+    (λ is-known is never.
+    let was = sym held.spooled ∙ is in
+    spool-balance h.kept (posted_in p) (sent_in s) (remaining_in files kept)
+    (held.few is-known was (held.failed never))
+    (ordered is-known was (held.failed never) (held.once never)))
+  where
+    counted : (b : Bool) → b ≡ false
+        → (if b then kept.next - kept.first else length kept.desk.kept) ≡ length kept.desk.kept
+    counted true is = absurd (cc)
+    counted false is = refl

@@ -1,7 +1,8 @@
 -- What a hold of the lock shows.
-use Rattle.std.proofs.Common.{◌≡◌, ℕ, List, [], true, false}
+use Rattle.std.proofs.Common.{◌≡◌, subst, ℕ, List, [], true, false}
+use Rattle.std.specs.Prelude.{Result, Ok, Err, IsErrAnd, IsErrOf}
 use Rattle.spool_device.specs.Disks.{Disk}
-use Rattle.relay_keeper.specs.Kept.{Admits, Kept, Puts}
+use Rattle.body_keeping.specs.Kept.{Admits, Kept, Puts}
 use Rattle.relay_keeper.specs.Holds.{KeepsInHold}
 
 -- A body that is kept is so in a hold.
@@ -23,3 +24,9 @@ keeps-in known files moment left_at old new body spans admits puts = record {
     settled = (puts is k).settled;
   };
 }
+
+-- An error that is handed on is the same.
+pub err-same : {T E : Type 0} (r : Result T E) (fault x : E) → IsErrAnd r (λ f. f ≡ fault)
+    → IsErrOf r x → IsErrOf {T = T} {E = E} (Err fault) x
+err-same (Ok v) fault x h e = absurd h
+err-same {T} {E} (Err f) fault x h e = subst (λ y. IsErrOf {T = T} {E = E} (Err y) x) h e

@@ -9,26 +9,33 @@ use Rattle.body_desk.specs.Bodies.{MayTake}
 use Rattle.body_sending.specs.Senders.{Sender, to_send}
 use Rattle.body_sending.specs.Steps.{Notes, NotesFate, Takes, next_number, attempts_before}
 use Rattle.account_book.specs.Accounts.{Replaces}
+use Rattle.body_keeping.specs.Kept.{Admits, Kept}
 use Rattle.relay_keeper.specs.Accounts.{Said, Sent, posts, sends, closes, posted_in, sent_in}
 use Rattle.relay_keeper.specs.Accounts.{closed_in, after_posts, after_closing, given_up, last_batch}
-use Rattle.relay_keeper.specs.Accounts.{new_sent, taken_from, noted_by, noted_from, ended_by}
-use Rattle.relay_keeper.specs.Accounts.{ended_after}
+use Rattle.relay_keeper.specs.Accounts.{new_sent, started_with, taken_from, noted_by, noted_from}
+use Rattle.relay_keeper.specs.Accounts.{ended_by, ended_after}
 use Rattle.relay_keeper.specs.Agreement.{Agrees, AreKnown, batch_by, came_of}
-use Rattle.relay_keeper.specs.Kept.{Admits, Kept}
 use Rattle.relay_keeper.specs.Handlers.{TakesBatch}
 use Rattle.relay_keeper.proofs.Book.{three, replaced_post, replaced_send, replaced_close}
 use Rattle.relay_keeper.proofs.Steps.{admit-step, batch-is-last, ended-are, is-busy, later-step}
 use Rattle.relay_keeper.proofs.Steps.{put-step, same-step, settle-step}
 
+-- what is known of the order of bodies
+abbrev Order : Type 1
+Order = List (List ℕ) → Sent → Type 0
+
 -- Nothing is changed but what doesn't count.
-pub known-same : (old new : BodyDesk) (was now closed : Bool) (book : List Said)
-    → AreKnown old was closed book → new ≡ old → now ≡ was → AreKnown new now closed book
-known-same old new was now closed book k d b = record {
+pub known-same : (old new : BodyDesk) (was now closed : Bool) (order order' : Order)
+    (book : List Said) → AreKnown old was closed order book → new ≡ old → now ≡ was
+    → ((p : List (List ℕ)) (s : Sent) → order p s → order' p s)
+    → AreKnown new now closed order' book
+known-same old new was now closed order order' book k d b step = record {
   posted = k.posted;
   sent = k.sent;
   gave = k.gave;
   book_is = k.book_is;
   agrees = same-step old new was now closed k.posted k.sent k.gave d b k.agrees;
+  in_order = step k.posted k.sent k.in_order;
 }
 
 -- What a sender's account says is so of the desk.
@@ -37,8 +44,9 @@ pub record Knows (desk : BodyDesk) (spooled closed : Bool) (sent : Sent) : Type 
   pub gave : Option (List (List ℕ))
   pub agrees : Agrees desk spooled closed posted sent gave
 
-module _ (old new : BodyDesk) (was now closed closed' : Bool) (book book' : List Said)
-    (a a' : Said) (k : AreKnown old was closed book) (r : Replaces book a a' book') where
+module _ (old new : BodyDesk) (was now closed closed' : Bool) (order order' : Order)
+    (book book' : List Said) (a a' : Said) (k : AreKnown old was closed order book)
+    (r : Replaces book a a' book') where
   replaced-as : (v : Said) → a ≡ v → Replaces (three k.posted k.sent k.gave) v a' book'
   replaced-as v e =
       subst (λ w. Replaces (three k.posted k.sent k.gave) w a' book') e
@@ -48,8 +56,9 @@ module _ (old new : BodyDesk) (was now closed closed' : Bool) (book book' : List
   pub known-post : (more : List (List ℕ)) → a ≡ posts (posted_in a) → a' ≡ after_posts more a
       → ((p : List (List ℕ)) (s : Sent) (g : Option (List (List ℕ)))
       → Agrees old was closed p s g → Agrees new now closed' (p ++ more) s g)
-      → AreKnown new now closed' book'
-  known-post more kind after step =
+      → ((p : List (List ℕ)) (s : Sent) → order p s → order' (p ++ more) s)
+      → AreKnown new now closed' order' book'
+  known-post more kind after step ordered =
       let f =
       replaced_post k.posted k.sent k.gave (posted_in a) a' book' (replaced-as _ kind) in
       record {
@@ -61,6 +70,7 @@ module _ (old new : BodyDesk) (was now closed closed' : Bool) (book book' : List
             ∙ ap (λ w. w ∷ sends k.sent ∷ closes k.gave ∷ [])
             (after ∙ ap (λ b. posts (b ++ more)) f.same);
         agrees = step k.posted k.sent k.gave k.agrees;
+        in_order = ordered k.posted k.sent k.in_order;
       }
 
   -- What the sender's account says is so.
@@ -77,8 +87,9 @@ module _ (old new : BodyDesk) (was now closed closed' : Bool) (book book' : List
   pub known-send : (sent : Sent) → a ≡ sends (sent_in a) → a' ≡ sends sent
       → ((p : List (List ℕ)) (g : Option (List (List ℕ)))
       → Agrees old was closed p (sent_in a) g → Agrees new now closed' p sent g)
-      → AreKnown new now closed' book'
-  known-send sent kind after step =
+      → ((p : List (List ℕ)) → order p (sent_in a) → order' p sent)
+      → AreKnown new now closed' order' book'
+  known-send sent kind after step ordered =
       let f = replaced_send k.posted k.sent k.gave (sent_in a) a' book' (replaced-as _ kind) in
       record {
         posted = k.posted;
@@ -89,6 +100,7 @@ module _ (old new : BodyDesk) (was now closed closed' : Bool) (book book' : List
         agrees =
             step k.posted k.gave
             (subst (λ s. Agrees old was closed k.posted s k.gave) (sym f.same) k.agrees);
+        in_order = ordered k.posted (subst (λ s. order k.posted s) (sym f.same) k.in_order);
       }
 
   -- All bodies are given up.
@@ -97,8 +109,9 @@ module _ (old new : BodyDesk) (was now closed closed' : Bool) (book book' : List
       → ((p : List (List ℕ)) (s : Sent) (g : Option (List (List ℕ)))
       → Agrees old was closed p s g
       → Agrees new now closed' p s (Some (given_up g ++ bodies)))
-      → AreKnown new now closed' book'
-  known-close bodies kind after step =
+      → ((p : List (List ℕ)) (s : Sent) → order p s → order' p s)
+      → AreKnown new now closed' order' book'
+  known-close bodies kind after step ordered =
       let f =
       replaced_close k.posted k.sent k.gave (closed_in a) a' book' (replaced-as _ kind) in
       record {
@@ -110,6 +123,7 @@ module _ (old new : BodyDesk) (was now closed closed' : Bool) (book book' : List
             ∙ ap (λ w. posts k.posted ∷ sends k.sent ∷ w ∷ [])
             (after ∙ ap (λ g. closes (Some (given_up g ++ bodies))) f.same);
         agrees = step k.posted k.sent k.gave k.agrees;
+        in_order = ordered k.posted k.sent k.in_order;
       }
 
 -- ---- what a hold says
@@ -207,16 +221,19 @@ note-step old new spooled p sent g next ended out n a =
 
 -- ---- the beginning
 
-came-none : (spooled : Bool) → came_of spooled [] new_sent ≡ []
-came-none true = refl
-came-none false = refl
+came-none : (spooled : Bool) (waits : List (List ℕ))
+    → came_of spooled [] (started_with waits new_sent) ≡ []
+came-none true waits = refl
+came-none false waits = refl
 
--- Nothing is at the desk, and the accounts say nothing.
-pub known-new : (desk : BodyDesk) (spooled : Bool) (book : List Said) → desk.kept ≡ []
-    → desk.turn ≡ idle → book ≡ three [] new_sent None → AreKnown desk spooled false book
-known-new desk spooled book none turn is = record {
+-- Nothing is at the desk, and the accounts say nothing but what waits.
+pub known-new : (desk : BodyDesk) (spooled : Bool) (order : Order) (waits : List (List ℕ))
+    (book : List Said) → desk.kept ≡ [] → desk.turn ≡ idle
+    → book ≡ three [] (started_with waits new_sent) None
+    → order [] (started_with waits new_sent) → AreKnown desk spooled false order book
+known-new desk spooled order waits book none turn is ordered = record {
   posted = [];
-  sent = new_sent;
+  sent = started_with waits new_sent;
   gave = None;
   book_is = is;
   agrees = record {
@@ -225,8 +242,9 @@ known-new desk spooled book none turn is = record {
     batch = λ c. sym (ap (λ t. batch_by t (last_batch desk)) turn);
     within = λ busy. absurd (busy turn);
     none = λ c. absurd (false-true c);
-    adds_up = λ f. omega (arith, ap (sum_by f) (came-none spooled), ap (sum_by f) none);
+    adds_up = λ f. omega (arith, ap (sum_by f) (came-none spooled waits), ap (sum_by f) none);
   };
+  in_order = ordered;
 }
   where
     false-true : false ≡ true → ⊥

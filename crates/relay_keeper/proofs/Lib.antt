@@ -1,10 +1,8 @@
-mod Fronts
-mod Waits
-mod Sound
 mod Held
 mod Together
 mod Book
 mod Steps
+mod Order
 mod Known
 mod Balance
 mod Recalled

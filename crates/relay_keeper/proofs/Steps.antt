@@ -1,6 +1,5 @@
 -- What each call makes of how the desk agrees with the accounts.
-use Rattle.std.proofs.Common.{◌≡◌, ◌≢◌, refl, sym, ap, subst, ◌∙◌, ℕ, zero, suc, ◌+◌, ◌≤◌, List, []}
-use Rattle.std.proofs.Common.{◌∷◌}
+use Rattle.std.proofs.Common.{◌≡◌, ◌≢◌, refl, sym, ap, subst, ◌∙◌, ℕ, ◌+◌, ◌≤◌, List, [], ◌∷◌}
 use Rattle.std.proofs.Common.{◌++◌, Bool, true, false, length, take, drop, length-append, arith}
 use Rattle.std.specs.Prelude.{if◌then◌else◌, map, sum_by, Option, Some}
 use Rattle.std.proofs.lemmas.List.{take-append-le, length-take-le}
@@ -8,19 +7,12 @@ use Rattle.std.proofs.lemmas.List.Sums.{sum_by-append, sum_by_push}
 use Rattle.model_desk.specs.Retries.{Fate}
 use Rattle.model_body.specs.Histories.{Turn, idle, is_out, again, is_split, ended_count}
 use Rattle.model_body.specs.Desks.{BodyDesk, after_settled}
+use Rattle.body_keeping.proofs.Basics.{drop-taken, true-false}
 use Rattle.relay_keeper.specs.Accounts.{Sent, last_batch, taken_from, read_from, ended_bodies}
 use Rattle.relay_keeper.specs.Accounts.{noted_by, freed_from, returned_from, given_up}
 use Rattle.relay_keeper.specs.Agreement.{Agrees, AddsUp, came_of, batch_by}
 
-true-false : true ≡ false → ⊥
-true-false e = cc
-
 -- ---- lists
-
-drop-taken : (n : ℕ) (xs : List (List ℕ)) → take n xs ++ drop n xs ≡ xs
-drop-taken zero xs = refl
-drop-taken (suc n) [] = refl
-drop-taken (suc n) (x ∷ xs) = ap (λ l. x ∷ l) (drop-taken n xs)
 
 -- What is added up of the first ones and of the others is all.
 pub sum-split : (f : List ℕ → ℕ) (n : ℕ) (xs : List (List ℕ))
@@ -28,12 +20,14 @@ pub sum-split : (f : List ℕ → ℕ) (n : ℕ) (xs : List (List ℕ))
 sum-split f n xs =
     ap (sum_by f) (sym (drop-taken n xs)) ∙ sum_by-append f (take n xs) (drop n xs)
 
-firsts-with : (fate : Fate) (bodies : List (List ℕ))
+-- Bodies with a fate, without it.
+pub firsts-with : (fate : Fate) (bodies : List (List ℕ))
     → map (λ (e : List ℕ × Fate). e.0) (map (λ body. (body, fate)) bodies) ≡ bodies
 firsts-with fate [] = refl
 firsts-with fate (x ∷ bodies) = ap (λ l. x ∷ l) (firsts-with fate bodies)
 
-firsts-append : (xs ys : List (List ℕ × Fate))
+-- Bodies that ended before others.
+pub firsts-append : (xs ys : List (List ℕ × Fate))
     → map (λ (e : List ℕ × Fate). e.0) (xs ++ ys)
     ≡ map (λ (e : List ℕ × Fate). e.0) xs ++ map (λ (e : List ℕ × Fate). e.0) ys
 firsts-append [] ys = refl

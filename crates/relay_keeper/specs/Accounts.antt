@@ -6,10 +6,12 @@ use Rattle.model_desk.specs.Retries.{Fate, Next, fate_of}
 use Rattle.model_body.specs.Histories.{Turn, idle, is_out, again, is_split}
 use Rattle.model_body.specs.Desks.{BodyDesk}
 
--- What a sender knows: where its last batch is, and the bodies of that while it is out or is to be
--- sent again; the bodies that were read from the spool to be sent; those that ended, each with how;
--- and those that went back to the spool where it was opened again, once for each time.
+-- What a sender knows: the bodies that waited in the spool at the start; where its last batch is,
+-- and the bodies of that while it is out or is to be sent again; the bodies that were read from the
+-- spool to be sent; those that ended, each with how; and those that went back to the spool where it
+-- was opened again, once for each time.
 pub record Sent : Type 0 where
+  pub at_start : List (List ℕ)
   pub turn : Turn
   pub batch : List (List ℕ)
   pub read : List (List ℕ)
@@ -25,7 +27,14 @@ pub data Said : Type 0 where
 
 -- what a sender knows that did nothing
 abbrev pub new_sent : Sent
-new_sent = record { turn = idle; batch = []; read = []; ended = []; returned = [] }
+new_sent = record {
+  at_start = [];
+  turn = idle;
+  batch = [];
+  read = [];
+  ended = [];
+  returned = [];
+}
 
 -- the bodies of an account of these
 abbrev pub posted_in : Said → List (List ℕ)
@@ -50,6 +59,10 @@ closed_in (closes bodies) = bodies
 -- Bodies were kept.
 abbrev pub after_posts : List (List ℕ) → Said → Said
 after_posts bodies said = posts (posted_in said ++ bodies)
+
+-- At the start these bodies waited in the spool.
+abbrev pub started_with : List (List ℕ) → Sent → Sent
+started_with bodies sent = record sent { at_start = bodies }
 
 -- the bodies of the batch that was taken last from this desk
 abbrev pub last_batch : BodyDesk → List (List ℕ)

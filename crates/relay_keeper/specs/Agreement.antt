@@ -1,8 +1,10 @@
 -- How what is kept agrees with the accounts of those who share it. (profile)
 use Rattle.std.specs.Prelude.{◌≡◌, ◌≢◌, ℕ, ◌+◌, ◌≤◌, Bool, true, false, List, [], ◌∷◌, map, length}
-use Rattle.std.specs.Prelude.{sum_by, if◌then◌else◌, Option, is_some}
+use Rattle.std.specs.Prelude.{◌++◌, sum_by, if◌then◌else◌, Option, is_some}
 use Rattle.model_body.specs.Histories.{Turn, idle, is_out, again}
 use Rattle.model_body.specs.Desks.{BodyDesk}
+use Rattle.spool_device.specs.Disks.{Disk}
+use Rattle.body_keeping.specs.Kept.{Kept, remaining_in}
 use Rattle.relay_keeper.specs.Accounts.{Said, Sent, posts, sends, closes, given_up, last_batch}
 
 -- the bodies of the last batch, while it is out or is to be sent again
@@ -36,11 +38,25 @@ pub record Agrees (desk : BodyDesk) (is_spooled is_closed : Bool) (posted : List
   pub none : is_closed ≡ true → (is_spooled ≡ false) × (desk.kept ≡ []) × (desk.turn ≡ idle)
   pub adds_up : AddsUp (came_of is_spooled posted sent) sent (given_up gave) desk.kept
 
--- What the lock keeps of the three accounts.
-pub record AreKnown (desk : BodyDesk) (is_spooled is_closed : Bool) (book : List Said) : Type 0
-  where
-    pub posted : List (List ℕ)
-    pub sent : Sent
-    pub gave : Option (List (List ℕ))
-    pub book_is : book ≡ posts posted ∷ sends sent ∷ closes gave ∷ []
-    pub agrees : Agrees desk is_spooled is_closed posted sent gave
+-- The bodies that waited at the start, followed by those that were kept, are those that ended,
+-- followed by these, which wait.
+abbrev pub AreInOrder : List (List ℕ) → Sent → List (List ℕ) → Type 0
+AreInOrder posted sent waits =
+    sent.at_start ++ posted ≡ map (λ e. e.0) sent.ended ++ waits
+
+-- It holds of a spool of a known device that hasn't failed and was never opened again.
+abbrev pub IsInOrder : {D : Type 0} → Type 0 → (D → Disk) → Kept D → Bool → List (List ℕ) → Sent
+    → Type 0
+IsInOrder known files kept is_reopened posted sent =
+    known → kept.is_spooled ≡ true → kept.has_failed ≡ false → is_reopened ≡ false
+    → AreInOrder posted sent (remaining_in files kept)
+
+-- What the lock keeps of the three accounts; `order` is what is known of the order of bodies.
+pub record AreKnown (desk : BodyDesk) (is_spooled is_closed : Bool)
+    (order : List (List ℕ) → Sent → Type 0) (book : List Said) : Type 0 where
+  pub posted : List (List ℕ)
+  pub sent : Sent
+  pub gave : Option (List (List ℕ))
+  pub book_is : book ≡ posts posted ∷ sends sent ∷ closes gave ∷ []
+  pub agrees : Agrees desk is_spooled is_closed posted sent gave
+  pub in_order : order posted sent

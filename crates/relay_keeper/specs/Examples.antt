@@ -15,11 +15,19 @@ two = 2 ∷ []
 -- the batch of both is out
 abbrev pub both_out : Sent
 both_out =
-    record { turn = is_out; batch = one ∷ two ∷ []; read = []; ended = []; returned = [] }
+    record {
+      at_start = one ∷ [];
+      turn = is_out;
+      batch = one ∷ two ∷ [];
+      read = [];
+      ended = [];
+      returned = [];
+    }
 
 -- The first one was delivered, and the second one is out, alone.
 abbrev pub second_out : Sent
 second_out = record {
+  at_start = one ∷ [];
   turn = is_out;
   batch = two ∷ [];
   read = [];

@@ -3,7 +3,7 @@ use Rattle.std.specs.Prelude.{◌≡◌, ◌⊎◌, ℕ, ◌<◌, List, true, fa
 use Rattle.model_body.specs.Desks.{HasRoom, body_size}
 use Rattle.spool_device.specs.Disks.{Disk}
 use Rattle.relay_service.specs.declared.stats.Report.{Report}
-use Rattle.relay_keeper.specs.Kept.{Admits, IsFull, IsReport, Kept, PutsAmong}
+use Rattle.body_keeping.specs.Kept.{Admits, IsFull, IsReport, Kept, PutsAmong}
 
 -- ---- bodies that are kept
 
@@ -26,11 +26,13 @@ pub record LacksInHold {D : Type 0} (known : Type 0) (files : D → Disk) (body 
   pub full : kept.is_spooled ≡ true → known
       → (kept.desk.config.memory_bytes < body_size body) ⊎ IsFull files body kept.spool
 
--- In a hold, a spool that failed was met, or it failed, or all bodies had been given up.
+-- In a hold, a spool that failed was met, or it failed; or, where bodies are kept in memory, all
+-- had been given up.
 pub record FailsInHold (D : Type 0) : Type 0 where
   pub old : Kept D
   pub new : Kept D
   pub only : new ≡ record old { spool = new.spool; has_failed = new.has_failed }
+  pub failed : old.is_spooled ≡ true → new.has_failed ≡ true
 
 -- In a hold, this was reported.
 pub record ReportsInHold (D : Type 0) (report : Report) : Type 0 where

@@ -1,7 +1,4 @@
 -- What contracts see of what keeps a relay's bodies.
-pub mod Fronts
-pub mod Kept
-pub mod Inside
 pub mod Holds
 pub mod Together
 pub mod Sharing

@@ -1,6 +1,6 @@
 //! What the accounts of a relay say, and how that changes.
-use crate::keeping::Keeping;
 use account_book::{Blank, Change, Opening};
+use body_keeping::Keeping;
 use retry_core::Next;
 use spool_device::Device;
 use std::marker::{Model, PhantomData};
@@ -46,6 +46,17 @@ impl Opening<SaidState> for Closes {
     ghost use Rattle.relay_keeper.specs.Accounts.{closes};
 
     ghost first = { closes None };
+}
+
+/// Bodies wait in the spool at the start.
+pub(crate) struct Starting;
+
+impl<D: Device> Change<SaidState, Snapshot<Keeping<D>>> for Starting {
+    ghost use Rattle.body_keeping.specs.Kept.{remaining_in};
+    ghost use Rattle.relay_keeper.specs.Accounts.{sends, sent_in, started_with};
+
+    ghost after = { λ said kept.
+        sends (started_with (remaining_in D.files kept.value) (sent_in said)) };
 }
 
 /// Bodies are kept.

@@ -1,27 +1,27 @@
 //! What the lock guards: what is kept, with the book of the accounts of those who share it.
 ghost use Rattle.std.specs.Prelude.{◌≡◌, ◌≤◌, ◌∷◌, [], IfOk, IsErrOf, None, OnErr, OnOk};
-ghost use Rattle.std.specs.Prelude.{length, true, false};
+ghost use Rattle.std.specs.Prelude.{length, true, false, ◌||◌};
 ghost use Rattle.model_body.specs.Histories.{idle, is_out};
 ghost use Rattle.retry_core.specs.Retries.{next_view};
 ghost use Rattle.body_desk.specs.Bodies.{MayNotTake, bodies_view};
 ghost use Rattle.body_sending.specs.Senders.{has_batch, is_pending};
 ghost use Rattle.body_sending.specs.Steps.{IsJudged};
 ghost use Rattle.spool.specs.Settled.{IsSettled};
+ghost use Rattle.body_keeping.specs.Kept.{Admits, Puts, kept_count, remaining_in};
 ghost use Rattle.relay_keeper.specs.Accounts.{after_posts, closed_in, closes, new_sent, posted_in};
-ghost use Rattle.relay_keeper.specs.Accounts.{posts, sends, sent_in};
-ghost use Rattle.relay_keeper.specs.Agreement.{AreKnown};
+ghost use Rattle.relay_keeper.specs.Accounts.{posts, sends, sent_in, started_with};
+ghost use Rattle.relay_keeper.specs.Agreement.{AreKnown, IsInOrder};
 ghost use Rattle.relay_keeper.specs.Balances.{Balances};
 ghost use Rattle.relay_keeper.specs.Handlers.{GaveUp, IsNoted, Reads, Restores, TakesBatch};
-ghost use Rattle.relay_keeper.specs.Kept.{Admits, Puts};
 ghost use Rattle.relay_keeper.specs.Holds.{FailsInHold, KeepsInHold, LacksInHold, ReportsInHold};
 ghost use Rattle.relay_keeper.specs.Together.{AreKept};
 
 use crate::account::{
     Account, Freeing, GivingUp, Noting, Posting, Reading, Returning, SaidState, Taking,
 };
-use crate::keeping::{EndedBodies, Keeping};
-use crate::names::EndedSpans;
+use crate::holdings::Holdings;
 use account_book::{Book, Naming};
+use body_keeping::{EndedBodies, EndedSpans, Keeping};
 use body_sending::BodySender;
 use relay_service::{KeepFault, LostSpan, Report};
 use retry_core::Next;
@@ -39,31 +39,44 @@ pub struct Accounted<J: Naming, D: Device> {
     book: Book<J, SaidState>,
     // Whether all bodies were given up, so that none is kept any more.
     is_closed: bool,
+    // Whether the spool was opened again.
+    is_reopened: bool,
 }
 
 impl<J: Naming, D: Device> Model for Accounted<J, D> {
-    ghost use Rattle.relay_keeper.specs.Kept.{Kept};
-    ghost use Rattle.relay_keeper.specs.Agreement.{AreKnown};
+    ghost use Rattle.body_keeping.specs.Kept.{Kept};
+    ghost use Rattle.relay_keeper.specs.Agreement.{AreKnown, IsInOrder};
 
     ghost Value = { Kept D };
 
     ghost view = { λ a. a.keeping };
 
-    ghost invariant = { λ a. AreKnown a.keeping.desk a.keeping.is_spooled a.is_closed a.book };
+    ghost invariant = { λ a. AreKnown a.keeping.desk a.keeping.is_spooled a.is_closed
+        (IsInOrder D.is_known D.files a.keeping a.is_reopened) a.book };
+}
+
+/// Whether one of these is so.
+fn is_either(first: bool, second: bool) -> bool
+    ensures { result ≡ (first || second) }
+{
+    first || second
 }
 
 impl<J: Naming, D: Device> Accounted<J, D> {
-    /// With three accounts that say nothing yet, while nothing is at the desk.
+    /// With three accounts that say nothing yet, but for what waits in the spool, while nothing is
+    /// at the desk.
     pub(crate) fn new(keeping: Keeping<D>, book: Book<J, SaidState>) -> Accounted<J, D>
         requires desk { keeping.desk.kept ≡ [] }
         requires turn { keeping.desk.turn ≡ idle }
-        requires book { book ≡ posts [] ∷ sends new_sent ∷ closes None ∷ [] }
+        requires book { book ≡ posts []
+            ∷ sends (started_with (remaining_in D.files keeping) new_sent) ∷ closes None ∷ [] }
         ensures { result ≡ keeping }
     {
         Accounted {
             keeping,
             book,
             is_closed: false,
+            is_reopened: false,
         }
     }
 
@@ -233,24 +246,26 @@ impl<J: Naming, D: Device> Accounted<J, D> {
         }
         let seen = Snapshot::of(&self.keeping);
         self.keeping.restore(spool);
+        self.is_reopened = true;
         sender.forget();
         self.book
             .record::<Snapshot<Keeping<D>>, Returning>(account, &seen);
     }
 
-    /// What three accounts say is so of what is kept. Nothing is changed. Answers whether bodies are
-    /// kept in a spool.
+    /// What three accounts say is so of what is kept. Nothing is changed.
     pub(crate) fn balance(
         &mut self,
         poster: &mut Account<J>,
         sender: &mut Account<J>,
         closer: &mut Account<J>,
-    ) -> bool
+    ) -> Holdings
         requires poster { poster.old ≡ posts (posted_in poster.old) }
         requires sender { sender.old ≡ sends (sent_in sender.old) }
         requires closer { closer.old ≡ closes (closed_in closer.old) }
-        ensures spooled { result ≡ self.old.is_spooled }
-        ensures balance { Balances result (posted_in poster.old) (sent_in sender.old)
+        ensures spooled { result.is_spooled ≡ self.old.is_spooled }
+        ensures failed { result.has_ever_failed ≡ false → self.old.has_failed ≡ false }
+        ensures kept { result.kept ≡ kept_count self.old }
+        ensures balance { Balances D.is_known result (posted_in poster.old) (sent_in sender.old)
             (closed_in closer.old) }
         ensures poster { poster.new ≡ poster.old }
         ensures sender { sender.new ≡ sender.old }
@@ -259,7 +274,11 @@ impl<J: Naming, D: Device> Accounted<J, D> {
         self.book.recognize(poster);
         self.book.recognize(sender);
         self.book.recognize(closer);
-        self.keeping.is_spooled()
+        Holdings {
+            is_spooled: self.keeping.is_spooled(),
+            has_ever_failed: is_either(self.is_reopened, self.keeping.has_failed()),
+            kept: self.keeping.kept_count(),
+        }
     }
 
     /// Whether the spool failed, and wasn't opened again.

@@ -6,6 +6,7 @@ ghost use Rattle.relay_keeper.specs.Together.{IsAt};
 use crate::account::Account;
 use crate::accounted::Accounted;
 use crate::closer::Closer;
+use crate::holdings::Holdings;
 use crate::sender::RelaySender;
 use account_book::Naming;
 use relay_service::{BodyKeeper, KeepFault, LostSpan, Report};
@@ -51,8 +52,8 @@ impl<J: Naming> fmt::Debug for Poster<J> {
 /// its account.
 ///
 /// Where it collects, the bodies of a round are kept in one hold, with one sync of the spool. In
-/// contracts it is a `Keeper`: the bodies that were kept, and those of them that were kept together
-/// and not recalled since.
+/// contracts it is a `Keeper`: the bodies that were kept, those of them that were kept together and
+/// not recalled since, and those that were collected.
 #[derive(Drop)]
 pub struct SharedKeeper<J: Naming, R, D: Device> {
     rt: R,
@@ -89,7 +90,7 @@ impl<J: Naming, R, D: Device> SharedKeeper<J, R, D> {
         poster: Poster<J>,
         is_collecting: bool,
     ) -> SharedKeeper<J, R, D>
-        ensures { result ≡ record { posted = poster; recallable = [] } }
+        ensures { result ≡ record { posted = poster; recallable = []; collected = [] } }
     {
         let Poster { account } = poster;
         SharedKeeper {
@@ -107,14 +108,15 @@ impl<J: Naming, R, D: Device> SharedKeeper<J, R, D> {
 }
 
 impl<J: Naming, R: Wait, D: Device> SharedKeeper<J, R, D> {
-    /// Shows what became of the bodies that came to memory, for every interleaving of the calls of
-    /// this keeper, of the sender and of what gives bodies up: without a spool those that were kept
-    /// through this keeper, with one those that the sender read. Each was delivered, lost by name,
-    /// given up by name or went back to the spool, or is kept in memory, as often as it came. The
-    /// answer is whether there is a spool. Nothing is changed. (OTLP Specification, "OTLP/HTTP
-    /// Response"; profile)
-    pub fn balance(&mut self, sender: &mut RelaySender<J>, closer: &mut Closer<J>) -> bool
-        ensures balance { Balances result self.old.posted sender.old.sent closer.old }
+    /// Shows what became of all bodies, for every interleaving of the calls of this keeper, of the
+    /// sender and of what gives bodies up. Without a spool each that was kept through this keeper
+    /// was delivered, lost by name or given up by name, or is kept in memory. In a spool that never
+    /// failed, the bodies that waited at the start, followed by those that were kept, are in order
+    /// those that were delivered or lost by name, followed by those that wait. Of a spool that
+    /// failed, each body that the sender read from it ended, went back to it, or is in memory.
+    /// Nothing is changed. (OTLP Specification, "OTLP/HTTP Response"; profile)
+    pub fn balance(&mut self, sender: &mut RelaySender<J>, closer: &mut Closer<J>) -> Holdings
+        ensures balance { Balances D.is_known result self.old.posted sender.old.sent closer.old }
         ensures keeper { self.new ≡ self.old }
         ensures sender { sender.new ≡ sender.old }
         ensures closer { closer.new ≡ closer.old }
@@ -138,13 +140,17 @@ fn index_of(bodies: &[Vec<u8>], content: &[u8]) -> Option<usize>
 
 impl<J: Naming, R: Wait, D: Device> BodyKeeper for SharedKeeper<J, R, D> {
     ghost use Rattle.relay_keeper.specs.Holds.{FailsInHold, LacksInHold, ReportsInHold};
-    ghost use Rattle.relay_keeper.specs.Sharing.{Answers};
+    ghost use Rattle.relay_keeper.specs.Sharing.{Answers, CollectsBody, KeepsCollected};
 
     ghost keeps = { λ old body new. Answers D.is_known D.files D.moment D.left_at body old new };
 
     ghost lacks_room = { λ _ body. LacksInHold D.is_known D.files body };
 
-    ghost fails = { λ _ _ _. FailsInHold D };
+    ghost fails = { λ old _ new. FailsInHold D × (new ≡ old) };
+
+    ghost collects_body = { CollectsBody };
+
+    ghost keeps_collected = { KeepsCollected };
 
     ghost reports = { λ _ report. ReportsInHold D report };
 

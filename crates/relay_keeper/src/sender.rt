@@ -11,9 +11,8 @@ ghost use Rattle.relay_keeper.specs.Handlers.{ReadsAndTakes, Restores, Tries};
 
 use crate::account::Account;
 use crate::accounted::Accounted;
-use crate::keeping::EndedBodies;
-use crate::names::EndedSpans;
 use account_book::Naming;
+use body_keeping::{EndedBodies, EndedSpans};
 use body_names::LostSink;
 use body_sending::{BodySender, name_ended};
 use retry_core::{Fate, Next, Outcome};

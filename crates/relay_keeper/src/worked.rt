@@ -5,12 +5,12 @@ ghost use Rattle.model_desk.specs.Retries.{Fate, Next};
 ghost use Rattle.model_body.specs.Histories.{again, idle};
 ghost use Rattle.relay_keeper.specs.Accounts.{after_closing, after_posts, closes, ended_after};
 ghost use Rattle.relay_keeper.specs.Accounts.{noted_from, posts, read_from, returned_from};
-ghost use Rattle.relay_keeper.specs.Agreement.{came_of};
+ghost use Rattle.relay_keeper.specs.Agreement.{AreInOrder, came_of};
 ghost use Rattle.relay_keeper.specs.Balances.{delivered_in, lost_in};
 ghost use Rattle.relay_keeper.specs.Examples.{both_out, one, refused, second_out, two};
 
-/// What is noted of a batch: one of several bodies that is refused ends none of them, one that is to
-/// be sent again keeps its bodies, and a body that is refused alone is lost.
+/// What is noted of a batch: one of several bodies that is refused ends none of them, one that is
+/// to be sent again keeps its bodies, and a body that is refused alone is lost.
 pub fn outcomes()
     ensures split { noted_from refused both_out ≡ record both_out { turn = idle; batch = [] } }
     ensures none { ended_after refused both_out.batch ≡ [] }
@@ -19,6 +19,17 @@ pub fn outcomes()
         ≡ (one, Fate.delivered) ∷ (two, Fate.refused 400) ∷ [] }
     ensures delivered { delivered_in (noted_from Next.done second_out) ≡ one ∷ two ∷ [] }
     ensures lost { lost_in (noted_from refused second_out) ≡ two ∷ [] }
+{}
+
+/// The order of the bodies of a spool: those that waited at the start, followed by those that were
+/// kept, are those that ended, followed by those that wait. None may be missing, come twice, or come
+/// early.
+pub fn orders()
+    ensures waits { AreInOrder (two ∷ []) second_out (two ∷ []) }
+    ensures ended { AreInOrder (two ∷ []) (noted_from Next.done second_out) [] }
+    ensures missing { AreInOrder (two ∷ []) second_out [] → ⊥ }
+    ensures twice { AreInOrder (two ∷ []) second_out (two ∷ two ∷ []) → ⊥ }
+    ensures early { AreInOrder (two ∷ one ∷ []) second_out (one ∷ two ∷ []) → ⊥ }
 {}
 
 /// What bodies came to memory, with a spool and without one, and what was given up.

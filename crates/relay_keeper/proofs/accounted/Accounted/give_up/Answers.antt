@@ -1,9 +1,11 @@
 use Rattle.std.proofs.Common.{◌≡◌, ◌∙◌, ◌++◌, Some, ap, false, subst, sym, true}
 use Rattle.body_desk.specs.Bodies.{bodies_view}
+use Rattle.body_keeping.specs.Kept.{Kept}
+use Rattle.body_keeping.proofs.Basics.{true-false}
 use Rattle.relay_keeper.specs.Accounts.{given_up}
-use Rattle.relay_keeper.specs.Agreement.{Agrees}
-use Rattle.relay_keeper.specs.Kept.{Kept}
+use Rattle.relay_keeper.specs.Agreement.{Agrees, IsInOrder}
 use Rattle.relay_keeper.proofs.Known.{known-close}
+use Rattle.relay_keeper.proofs.Order.{order-failed}
 use Rattle.relay_keeper.proofs.Steps.{close-step}
 use Rattle.relay_keeper.proofs.accounted.Accounted.give_up.Goals as goal
 
@@ -19,6 +21,8 @@ invariant_of-self g c =
     let all : bodies_view c.of-seen.result.value.items ≡ old.desk.kept =
     ap (λ v. bodies_view v.items) c.of-seen.ensures ∙ c.give_up-ended.ensures.bodies was in
     known-close old.desk new.desk old.is_spooled new.is_spooled c.self.inside.is_closed true
+    (IsInOrder g.D.Device.is_known g.D.Device.files old c.self.inside.is_reopened)
+    (IsInOrder g.D.Device.is_known g.D.Device.files new c.self.inside.is_reopened)
     c.self.inside.book c.record.new.self c.args.account.now c.record.new.account
     c.self.invariant c.record.ensures.book (bodies_view c.of-seen.result.value.items) c.requires
     c.record.ensures.account
@@ -28,3 +32,6 @@ invariant_of-self g c =
     (sym spooled)
     (close-step old.desk new.desk c.self.inside.is_closed p s gave none.0 none.1
     (subst (λ b. Agrees old.desk b c.self.inside.is_closed p s gave) was a))))
+    (λ p s ordered.
+    order-failed g.D.Device.is_known g.D.Device.files new c.self.inside.is_reopened p s
+    (λ is. absurd (true-false (sym is ∙ spooled))))

@@ -1,9 +1,10 @@
 use Rattle.std.proofs.Common.{◌≡◌, ◌∙◌, ◌++◌, ap, subst, sym, true}
 use Rattle.body_desk.specs.Bodies.{bodies_view}
-use Rattle.relay_keeper.specs.Agreement.{Agrees}
-use Rattle.relay_keeper.specs.Kept.{Kept, PutsAll}
+use Rattle.body_keeping.specs.Kept.{Kept, PutsAll, remaining_in}
+use Rattle.relay_keeper.specs.Agreement.{Agrees, IsInOrder}
 use Rattle.relay_keeper.proofs.Handled.{at-ok}
 use Rattle.relay_keeper.proofs.Known.{known-post}
+use Rattle.relay_keeper.proofs.Order.{order-put}
 use Rattle.relay_keeper.proofs.Steps.{put-step, same-step}
 use Rattle.relay_keeper.proofs.Together.{kept-together}
 use Rattle.relay_keeper.proofs.accounted.Accounted.keep_together.Goals as goal
@@ -18,14 +19,22 @@ invariant_of-self-2 g c =
     let only = at-ok c.keep_together.result well c.keep_together.ensures.put_only in
     let bodies = bodies_view c.args.bodies.now.items in
     let closed = c.self.inside.is_closed in
-    known-post old.desk new.desk old.is_spooled new.is_spooled closed closed c.self.inside.book
-    c.record.new.self c.args.account.now c.record.new.account c.self.invariant
+    known-post old.desk new.desk old.is_spooled new.is_spooled closed closed
+    (IsInOrder g.D.Device.is_known g.D.Device.files old c.self.inside.is_reopened)
+    (IsInOrder g.D.Device.is_known g.D.Device.files new c.self.inside.is_reopened)
+    c.self.inside.book c.record.new.self c.args.account.now c.record.new.account c.self.invariant
     c.record.ensures.book bodies c.requires c.record.ensures.account
     (λ p s gave a.
     same-step old.desk new.desk true new.is_spooled closed (p ++ bodies) s gave
     (ap (λ (k : Kept _). k.desk) only) (ap (λ (k : Kept _). k.is_spooled) only ∙ is)
     (put-step old.desk closed p bodies s gave
     (subst (λ b. Agrees old.desk b closed p s gave) is a)))
+    (λ p s.
+    order-put g.D.Device.is_known g.D.Device.files old new c.self.inside.is_reopened bodies
+    (ap (λ (k : Kept _). k.is_spooled) only) (ap (λ (k : Kept _). k.has_failed) only)
+    (λ known spooled.
+    at-ok c.keep_together.result well c.keep_together.ensures.remaining known
+    ∙ ap (λ l. remaining_in g.D.Device.files old ++ bodies_view l) c.deref.ensures.value) p s)
 
 pub returns-clause-kept : goal.returns-clause-kept
 returns-clause-kept g c =

@@ -1,9 +1,10 @@
 use Rattle.std.proofs.Common.{◌≡◌, ◌∙◌, ap, subst, sym, true}
 use Rattle.model_body.specs.Desks.{BodyDesk}
+use Rattle.body_keeping.specs.Kept.{Kept}
 use Rattle.relay_keeper.specs.Accounts.{returned_from, sends, sent_in}
-use Rattle.relay_keeper.specs.Agreement.{Agrees}
-use Rattle.relay_keeper.specs.Kept.{Kept}
+use Rattle.relay_keeper.specs.Agreement.{Agrees, IsInOrder}
 use Rattle.relay_keeper.proofs.Known.{known-send}
+use Rattle.relay_keeper.proofs.Order.{order-again}
 use Rattle.relay_keeper.proofs.Steps.{return-step}
 use Rattle.relay_keeper.proofs.accounted.Accounted.restore.Goals as goal
 
@@ -16,7 +17,10 @@ invariant_of-self g c =
     ap (λ (k : Kept _). k.is_spooled) c.restore.ensures.only in
     let sent = sent_in c.args.account.now in
     known-send old.desk new.desk old.is_spooled new.is_spooled c.self.inside.is_closed
-    c.self.inside.is_closed c.self.inside.book c.record.new.self c.args.account.now
+    c.self.inside.is_closed
+    (IsInOrder g.D.Device.is_known g.D.Device.files old c.self.inside.is_reopened)
+    (IsInOrder g.D.Device.is_known g.D.Device.files new true)
+    c.self.inside.book c.record.new.self c.args.account.now
     c.record.new.account c.self.invariant c.record.ensures.book
     (returned_from old.desk.kept sent) c.requires.said
     (c.record.ensures.account
@@ -28,3 +32,5 @@ invariant_of-self g c =
     (return-step old.desk new.desk old.is_spooled p sent gave c.self.inside.is_closed was
     (ap (λ (d : BodyDesk). d.kept) c.restore.ensures.desk)
     (ap (λ (d : BodyDesk). d.turn) c.restore.ensures.desk) a))
+    (λ p ordered.
+    order-again g.D.Device.is_known g.D.Device.files new p (returned_from old.desk.kept sent))

@@ -1,10 +1,12 @@
-use Rattle.std.proofs.Common.{◌≡◌, ◌∙◌, ap, false, inl, inr, subst, sym, true}
+use Rattle.std.proofs.Common.{◌≡◌, ◌∙◌, ap, inl, inr, subst, sym}
 use Rattle.retry_core.specs.Retries.{next_view}
 use Rattle.body_desk.specs.Bodies.{bodies_view}
+use Rattle.body_keeping.specs.Kept.{Kept}
+use Rattle.body_keeping.proofs.Basics.{true-false}
 use Rattle.relay_keeper.specs.Accounts.{freed_from, noted_from, sent_in}
-use Rattle.relay_keeper.specs.Agreement.{Agrees}
-use Rattle.relay_keeper.specs.Kept.{Kept}
+use Rattle.relay_keeper.specs.Agreement.{Agrees, IsInOrder}
 use Rattle.relay_keeper.proofs.Known.{Knows, closed-none, ended-is, known-send, knows, note-step}
+use Rattle.relay_keeper.proofs.Order.{order-failed, order-settle}
 use Rattle.relay_keeper.proofs.Steps.{free-step}
 use Rattle.relay_keeper.proofs.accounted.Accounted.settle.Goals as goal
 use Rattle.relay_keeper.proofs.accounted.Accounted.settle.Goals.{then-self, else-self}
@@ -21,7 +23,10 @@ invariant_of-self g c =
     closed-none old.desk new.desk (next_view c.settle-next.result.0)
     (bodies_view c.settle-next.result.1.bodies.items) turn c.settle-next.ensures.noted in
     known-send old.desk new.desk old.is_spooled new.is_spooled c.self.inside.is_closed
-    c.self.inside.is_closed c.self.inside.book c.record.new.self c.args.account.now
+    c.self.inside.is_closed
+    (IsInOrder g.D.Device.is_known g.D.Device.files old c.self.inside.is_reopened)
+    (IsInOrder g.D.Device.is_known g.D.Device.files new c.self.inside.is_reopened)
+    c.self.inside.book c.record.new.self c.args.account.now
     c.record.new.account c.self.invariant c.record.ensures.book (freed_from sent)
     c.requires.said c.record.ensures.account
     (λ p gave a.
@@ -29,6 +34,11 @@ invariant_of-self g c =
     (subst (λ b. Agrees new.desk old.is_spooled b p (freed_from sent) gave) (sym c.if-self.true)
     (free-step old.desk new.desk old.is_spooled p sent gave none.1
     (subst (λ b. Agrees old.desk old.is_spooled b p sent gave) c.if-self.true a))))
+    (λ p ordered.
+    order-failed g.D.Device.is_known g.D.Device.files new c.self.inside.is_reopened p
+    (freed_from sent)
+    (λ is. absurd (true-false (sym is
+    ∙ (same ∙ (c.self.invariant.agrees.none c.if-self.true).0)))))
 
 pub invariant_of-self-else-self : goal.invariant_of-self-else-self
 invariant_of-self-else-self g c =
@@ -39,7 +49,10 @@ invariant_of-self-else-self g c =
     let sent = sent_in c.args.account.now in
     let next = next_view c.settle-next.result.0 in
     known-send old.desk new.desk old.is_spooled new.is_spooled c.self.inside.is_closed
-    c.self.inside.is_closed c.self.inside.book c.record-else-self.new.self c.args.account.now
+    c.self.inside.is_closed
+    (IsInOrder g.D.Device.is_known g.D.Device.files old c.self.inside.is_reopened)
+    (IsInOrder g.D.Device.is_known g.D.Device.files new c.self.inside.is_reopened)
+    c.self.inside.book c.record-else-self.new.self c.args.account.now
     c.record-else-self.new.account c.self.invariant c.record-else-self.ensures.book
     (noted_from next sent) c.requires.said c.record-else-self.ensures.account
     (λ p gave a.
@@ -50,6 +63,22 @@ invariant_of-self-else-self g c =
     (note-step old.desk new.desk old.is_spooled p sent gave next
     (bodies_view c.settle-next.result.1.bodies.items) c.requires.out c.settle-next.ensures.noted
     (subst (λ b. Agrees old.desk old.is_spooled b p sent gave) c.if-self.false a))))
+    (λ p.
+    order-settle g.D.Device.is_known g.D.Device.files old new c.self.inside.is_reopened next
+    (bodies_view c.settle-next.result.1.bodies.items) sent
+    (ended-is old.desk new.desk old.is_spooled sent next
+    (bodies_view c.settle-next.result.1.bodies.items)
+    (subst (λ b. Knows old.desk old.is_spooled b sent) c.if-self.false
+    (knows old.desk new.desk old.is_spooled new.is_spooled c.self.inside.is_closed
+    c.self.inside.is_closed
+    (IsInOrder g.D.Device.is_known g.D.Device.files old c.self.inside.is_reopened)
+    (IsInOrder g.D.Device.is_known g.D.Device.files new c.self.inside.is_reopened)
+    c.self.inside.book c.record-else-self.new.self c.args.account.now
+    c.record-else-self.new.account c.self.invariant c.record-else-self.ensures.book
+    c.requires.said))
+    c.requires.out c.settle-next.ensures.noted)
+    same (ap (λ (k : Kept _). k.has_failed) c.settle-next.ensures.only)
+    c.settle-next.ensures.remaining p)
 
 pub returns-clause-noted : goal.returns-clause-noted
 returns-clause-noted g c =
@@ -71,7 +100,10 @@ returns-clause-noted g c =
                 (subst (λ b. Knows old.desk old.is_spooled b (sent_in c.args.account.now))
                 w.if-self.false
                 (knows old.desk new.desk old.is_spooled new.is_spooled c.self.inside.is_closed
-                c.self.inside.is_closed c.self.inside.book w.record-else-self.new.self
+                c.self.inside.is_closed
+                (IsInOrder g.D.Device.is_known g.D.Device.files old c.self.inside.is_reopened)
+                (IsInOrder g.D.Device.is_known g.D.Device.files new c.self.inside.is_reopened)
+                c.self.inside.book w.record-else-self.new.self
                 c.args.account.now w.record-else-self.new.account c.self.invariant
                 w.record-else-self.ensures.book c.requires.said))
                 c.requires.out c.settle-next.ensures.noted;

@@ -1,8 +1,9 @@
-use Rattle.std.proofs.Common.{◌≡◌, ◌∙◌, ap, false, subst, sym}
+use Rattle.std.proofs.Common.{◌≡◌, ◌∙◌, ap, refl, subst, sym}
+use Rattle.body_keeping.specs.Kept.{Kept, remaining_in}
 use Rattle.relay_keeper.specs.Accounts.{last_batch, sends, sent_in, taken_from}
-use Rattle.relay_keeper.specs.Agreement.{Agrees}
-use Rattle.relay_keeper.specs.Kept.{Kept}
+use Rattle.relay_keeper.specs.Agreement.{Agrees, IsInOrder}
 use Rattle.relay_keeper.proofs.Known.{Knows, known-send, knows, may-open, may-within, takes-batch}
+use Rattle.relay_keeper.proofs.Order.{order-same}
 use Rattle.relay_keeper.proofs.Steps.{take-step}
 use Rattle.relay_keeper.proofs.accounted.Accounted.take.Goals as goal
 
@@ -12,12 +13,18 @@ invariant_of-self-2 g c =
     let new = c.take.new.self in
     let same : new.is_spooled ≡ old.is_spooled =
     ap (λ (k : Kept _). k.is_spooled) (c.in_ok-take.ensures.counted c.if-not-branch.false) in
+    let failed : new.has_failed ≡ old.has_failed =
+    ap (λ (k : Kept _). k.has_failed) (c.in_ok-take.ensures.counted c.if-not-branch.false) in
+    let left : remaining_in g.D.Device.files new ≡ remaining_in g.D.Device.files old =
+    ap (remaining_in g.D.Device.files) (c.in_ok-take.ensures.counted c.if-not-branch.false) in
     let sent = sent_in c.args.account.now in
     let takes = c.in_ok-take.ensures.taken c.if-not-branch.false in
     let closed = c.self.inside.is_closed in
     let batch = last_batch new.desk in
-    known-send old.desk new.desk old.is_spooled new.is_spooled closed closed c.self.inside.book
-    c.record.new.self c.args.account.now c.record.new.account c.self.invariant
+    known-send old.desk new.desk old.is_spooled new.is_spooled closed closed
+    (IsInOrder g.D.Device.is_known g.D.Device.files old c.self.inside.is_reopened)
+    (IsInOrder g.D.Device.is_known g.D.Device.files new c.self.inside.is_reopened)
+    c.self.inside.book c.record.new.self c.args.account.now c.record.new.account c.self.invariant
     c.record.ensures.book (taken_from batch sent) c.requires.said
     (c.record.ensures.account
     ∙ ap (λ (k : Kept _). sends (taken_from (last_batch k.desk) sent)) c.of-seen.ensures)
@@ -28,6 +35,9 @@ invariant_of-self-2 g c =
     (take-step old.desk new.desk old.is_spooled p sent gave takes.count takes.desk_is
     (may-within old.desk old.is_spooled closed p sent gave takes.count a takes.may)
     (subst (λ b. Agrees old.desk old.is_spooled b p sent gave) opened a))))
+    (λ p.
+    order-same g.D.Device.is_known g.D.Device.files old new c.self.inside.is_reopened same
+    (λ e. failed ∙ e) (λ known is not. left) p sent (taken_from batch sent) refl refl)
 
 pub returns-clause-taken : goal.returns-clause-taken
 returns-clause-taken g c =
@@ -38,8 +48,10 @@ returns-clause-taken g c =
     let takes = c.in_ok-take.ensures.taken c.if-not-branch.false in
     let closed = c.self.inside.is_closed in
     let w =
-    knows old.desk new.desk old.is_spooled new.is_spooled closed closed c.self.inside.book
-    c.record.new.self c.args.account.now c.record.new.account c.self.invariant
+    knows old.desk new.desk old.is_spooled new.is_spooled closed closed
+    (IsInOrder g.D.Device.is_known g.D.Device.files old c.self.inside.is_reopened)
+    (IsInOrder g.D.Device.is_known g.D.Device.files new c.self.inside.is_reopened)
+    c.self.inside.book c.record.new.self c.args.account.now c.record.new.account c.self.invariant
     c.record.ensures.book c.requires.said in
     let opened =
     may-open old.desk old.is_spooled closed w.posted sent w.gave takes.count w.agrees

@@ -1,0 +1,7 @@
+pub mod Basics
+mod Putting
+mod Fronts
+mod Rising
+mod Remaining
+mod Waits
+mod Sound
