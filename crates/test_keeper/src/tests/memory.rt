@@ -3,7 +3,7 @@ ghost use Rattle.std.specs.Prelude.{◌≡◌};
 
 use crate::tests::equal::assert_equal;
 use crate::tests::parts::{FIRST, Relay, SECOND, amounts, config};
-use relay_keeper::{Naming, RelayBlank, Tried};
+use relay_keeper::{Holdings, Naming, RelayBlank, Tried};
 use relay_service::{BodyKeeper, KeepFault, Loss, Report};
 use retry_core::{Cause, Next, Outcome};
 use spool_device::MemoryDevice;
@@ -94,9 +94,14 @@ fn refuse<J: Naming, R: Wait + Abort + Copy>(rt: R, alloc: Global, blank: RelayB
     }
     assert_equal(&rt, names.len(), 1);
     assert_equal(&rt, relay.keep(&FIRST), Ok(()));
+    let wanted = Holdings {
+        is_spooled: false,
+        has_ever_failed: false,
+        kept: 1,
+    };
+    assert_equal(&rt, relay.holdings(), wanted);
     relay.drain();
-    let is_spooled = relay.keeper.balance(&mut relay.sender, &mut relay.closer);
-    assert_equal(&rt, is_spooled, false);
+    assert_equal(&rt, relay.holdings(), Holdings { kept: 0, ..wanted });
     assert_equal(&rt, relay.amounts(), (amounts(3, 1, 2), amounts(3, 1, 2)));
 }
 

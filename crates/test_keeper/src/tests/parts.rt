@@ -8,7 +8,8 @@ use body_names::LostSink;
 use body_sending::{BodySender, SendConfig};
 use post_body::read_content;
 use relay_keeper::{
-    Accounted, Closer, Keeping, Naming, RelayBlank, RelayParts, RelaySender, SharedKeeper, Tried,
+    Accounted, Closer, Holdings, Keeping, Naming, RelayBlank, RelayParts, RelaySender,
+    SharedKeeper, Tried,
 };
 use relay_service::{Amounts, BodyKeeper, KeepFault};
 use retry_core::{Fate, Next, Outcome};
@@ -177,6 +178,11 @@ impl<J: Naming, R: Wait + Abort + Copy, D: Device + Drop> Relay<J, R, D> {
     pub(crate) fn amounts(&self) -> (Amounts, Amounts) {
         let report = self.keeper.report();
         (report.bodies, report.spans)
+    }
+
+    /// What is kept, as the balance answers it.
+    pub(crate) fn holdings(&mut self) -> Holdings {
+        self.keeper.balance(&mut self.sender, &mut self.closer)
     }
 
     /// Takes the spool's device.

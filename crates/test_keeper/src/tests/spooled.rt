@@ -3,7 +3,7 @@ ghost use Rattle.std.specs.Prelude.{◌≡◌};
 
 use crate::tests::equal::assert_equal;
 use crate::tests::parts::{FIRST, Relay, SECOND, amounts, config, opened};
-use relay_keeper::{Naming, RelayBlank, Tried};
+use relay_keeper::{Holdings, Naming, RelayBlank, Tried};
 use relay_service::{Amounts, BodyKeeper, KeepFault};
 use retry_core::{Next, Outcome};
 use spool_device::{MemoryDevice, MemoryFile};
@@ -28,6 +28,15 @@ fn over<J: Naming, R: Wait + Abort + Copy>(
     let spool = opened(alloc, device, limit, 60).expect(&rt, "a spool");
     let config = config(100, 1_000);
     Relay::new(rt, alloc, blank, config, Some(spool), outcomes)
+}
+
+/// What is kept in a spool that never failed.
+fn spooled(kept: u64) -> Holdings {
+    Holdings {
+        is_spooled: true,
+        has_ever_failed: false,
+        kept,
+    }
 }
 
 /// A relay over no files, with two bodies.
@@ -114,6 +123,7 @@ fn read_and_send<J: Naming, R: Wait + Abort + Copy>(
     let mut relay = over::<J, R>(rt, alloc, blank, files, 1_000, &[refused, refused]);
     assert_equal(&rt, relay.refill(), Ok(true));
     assert_equal(&rt, relay.amounts(), (amounts(2, 0, 0), amounts(0, 0, 0)));
+    assert_equal(&rt, relay.holdings(), spooled(2));
     for _attempt in 0..3 {
         let _ = relay.try_next(0);
         let _ = relay.finish();
@@ -122,6 +132,7 @@ fn read_and_send<J: Naming, R: Wait + Abort + Copy>(
     let sink = &relay.sink;
     assert_equal(&rt, (sink.names, sink.digits, sink.status), (1, 12, 400));
     assert_equal(&rt, relay.refill(), Ok(false));
+    assert_equal(&rt, relay.holdings(), spooled(0));
 }
 
 #[test]
@@ -143,6 +154,11 @@ fn restore_in_hand<J: Naming, R: Wait + Abort + Copy>(rt: R, alloc: Global, blan
     let device = MemoryDevice::new(alloc, files, u64::MAX);
     let spool = opened(alloc, device, 1_000, 60).expect(&rt, "a spool");
     relay.restore(spool);
+    let wanted = Holdings {
+        has_ever_failed: true,
+        ..spooled(2)
+    };
+    assert_equal(&rt, relay.holdings(), wanted);
     assert_equal(&rt, relay.finish(), None);
     let tried = relay.try_next(0);
     assert_equal(&rt, tried, Tried::Came(Outcome::Delivered));

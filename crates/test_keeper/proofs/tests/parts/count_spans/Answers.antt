@@ -1,7 +1,7 @@
 use Rattle.std.proofs.Common.{rules, ◌∙◌, ap, length}
 use Rattle.otlp_read.specs.Requests.{request_view}
 use Rattle.otlp_read.specs.Triples.{triple_view}
-use Rattle.test_keeper.proofs.Counted.{counted}
+use Rattle.relay_service.proofs.Counted.{counted}
 use Rattle.test_keeper.proofs.tests.parts.count_spans.Goals as goal
 
 pub returns-clause-count : goal.returns-clause-count
