@@ -18,6 +18,10 @@ pub enum Failure {
     #[error("cannot open the spool: the folder can't be made, read or written, or another program has \
         it; choose another --spool, or let the process write there")]
     Spool,
+    /// The folder of the spool has files of several spools.
+    #[error("cannot open the spool: the numbers of its files overlap, so they are of several spools; \
+        move the files of the others to folders of their own")]
+    Overlap,
     /// A body that waits in the spool is above the memory that bodies may take: an earlier run had
     /// more.
     #[error("a body that waits in the spool is larger than --memory-mb; start with a larger one")]
@@ -47,6 +51,7 @@ impl Failure {
         match self {
             Failure::Listen(..)
             | Failure::Spool
+            | Failure::Overlap
             | Failure::LargeBody
             | Failure::Names
             | Failure::Thread

@@ -77,6 +77,7 @@ pub(crate) fn open_first<F: Write>(
         }
         Err(SpoolError::Memory) => Err(Failure::OutOfMemory),
         Err(SpoolError::Failed | SpoolError::Full) => Err(Failure::Spool),
+        Err(SpoolError::Overlap) => Err(Failure::Overlap),
     }
 }
 
