@@ -1,5 +1,5 @@
 .DEFAULT_GOAL := help
-.PHONY: help run tour quick test audit docs times install check format clean
+.PHONY: help run tour quick ports test audit docs times install check format clean
 
 PREFIX ?= $(HOME)/.local
 PORT ?= 4318
@@ -13,12 +13,16 @@ run: ## Build two programs without their proofs, and show a trace; PORT=4318 is 
 tour: ## Build seven programs without their proofs and run them, each with a word on what it shows
 	tools/tour
 
-quick: docs ## The documents, and the tests and programs without their proofs (half an hour or more)
+quick: docs ## The documents, and the tests and programs without their proofs (a quarter of an hour on four processors)
 	tools/quick
+
+# The ports that stored runs need: a run of an hour ends at once where another program has one.
+ports:
+	@tools/ports-free
 
 # The documents, the tools' own tests, every proof, wrong bodies (those that this commit chooses),
 # tests, programs, stored runs, hostile bodies, and what must not compile.
-test: docs ## The gate: every proof, wrong bodies, tests and runs (from nothing an hour or two on four processors)
+test: ports docs ## The gate: every proof, wrong bodies, tests and runs (from nothing an hour or two on four processors)
 	tools/lib-test
 	tools/run-runs
 	rt ci
