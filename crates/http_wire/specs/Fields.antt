@@ -1,4 +1,4 @@
--- The fields of a head, and what they say (RFC 9110, sections 5, 8.6 and 10.2.3).
+-- The fields of a head, and what they say (RFC 9110, sections 5 and 8.6).
 use Rattle.std.specs.Prelude.{ℕ, ◌-◌, ◌^◌, Bool, ◌&&◌, ◌≡◌, ◌≤◌, ⊤, List, [], ◌∷◌, length, map, min}
 use Rattle.std.specs.Prelude.{All}
 use Rattle.std.specs.Prelude.{nat_lt, bytes_eq, if◌then◌else◌, Option, Some, None, option_map}
@@ -10,9 +10,6 @@ use Rattle.http_header.specs.FieldName.{IsFieldName}
 use Rattle.http_header.specs.FieldValue.{FieldValue, IsFieldValue}
 use Rattle.http_header.specs.HeaderMap.{Entries, get_all, value_count}
 use Rattle.http_header.specs.Token.{lowercase}
-use Rattle.httpdate.specs.Date.{parse_secs}
-use Rattle.retry_core.specs.declared.outcome.RetryAfter.{RetryAfter}
-use Rattle.retry_core.specs.declared.outcome.RetryAfter.TheVariants.{Seconds, Date}
 use Rattle.http_wire.specs.declared.fault.HttpFault.{HttpFault}
 use Rattle.http_wire.specs.declared.fault.HttpFault.TheVariants as faults
 
@@ -46,18 +43,6 @@ content_length [] = Ok None
 content_length (value ∷ values) =
     if list_all (bytes_eq value) values && is_length value then Ok (Some (digits_value 10 value))
     else Err faults.BadLength
-
--- what a value of Retry-After says: a number of seconds, 2^64 - 1 where they are more (profile), or
--- a date; any other value says nothing
-abbrev pub asked_wait : List ℕ → Option RetryAfter
-asked_wait value =
-    if is_digits value then Some (Seconds (min (digits_value 10 value) (2 ^ 64 - 1)))
-    else option_map Date (parse_secs value)
-
--- what the first value of Retry-After says (profile)
-abbrev pub retry_after : List (List ℕ) → Option RetryAfter
-retry_after [] = None
-retry_after (value ∷ values) = asked_wait value
 
 -- the map has the values of the fields, under each name, and no others
 pub record KeepsFields (kept : Entries FieldValue) (fields : List NameAndValue) : Type 0 where

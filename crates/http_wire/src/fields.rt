@@ -9,8 +9,8 @@ ghost use Rattle.http_header.specs.FieldValue.{plain_value};
 ghost use Rattle.http_header.specs.HeaderMap.{append, get_all, RefusesAppend};
 ghost use Rattle.http_header.specs.Token.{lowercase};
 ghost use Rattle.httparse.specs.Spans.{header_bytes, IsHeaderWithin};
-ghost use Rattle.http_wire.specs.Fields.{content_length, is_digits, is_length, retry_after};
-ghost use Rattle.http_wire.specs.Fields.{asked_wait, IsTaken, KeepsFields, RefusesFields};
+ghost use Rattle.http_wire.specs.Fields.{content_length, is_digits, is_length};
+ghost use Rattle.http_wire.specs.Fields.{IsTaken, KeepsFields, RefusesFields};
 
 use crate::fault::HttpFault;
 use http_header::{
@@ -18,8 +18,6 @@ use http_header::{
     ValueIter,
 };
 use httparse::spans::HeaderSpan;
-use httpdate::HttpDate;
-use retry_core::RetryAfter;
 use std::alloc::Global;
 use std::str;
 
@@ -91,14 +89,14 @@ fn are_digits(text: &[u8]) -> bool
 }
 
 /// Whether the text is decimal digits, one or more.
-fn is_digits(text: &[u8]) -> bool
+pub fn is_digits(text: &[u8]) -> bool
     ensures { result ≡ is_digits text.now }
 {
     !text.is_empty() && are_digits(text)
 }
 
 /// The number that digits write, where it fits 64 bits.
-fn read_length(text: &[u8]) -> Option<u64>
+pub fn read_length(text: &[u8]) -> Option<u64>
     ensures { result ≡ (if is_length text.now then Some (digits_value 10 text.now) else None) }
 {
     if !is_digits(text) {
@@ -137,30 +135,5 @@ pub fn content_length(kept: &HeaderMap) -> Result<Option<u64>, HttpFault>
     match read_length(first) {
         Some(n) => Ok(Some(n)),
         None => Err(HttpFault::BadLength),
-    }
-}
-
-/// What a value of Retry-After says.
-fn asked_wait(value: &[u8]) -> Option<RetryAfter>
-    ensures { result ≡ asked_wait value.now }
-{
-    if is_digits(value) {
-        return Some(RetryAfter::Seconds(read_length(value).unwrap_or(u64::MAX)));
-    }
-    match HttpDate::parse_ascii(value) {
-        Ok(date) => Some(RetryAfter::Date(date.unix_secs())),
-        Err(_) => None,
-    }
-}
-
-/// What the first Retry-After says.
-pub fn retry_after(kept: &HeaderMap) -> Option<RetryAfter>
-    ensures { result
-        ≡ retry_after (map (λ v. v.bytes) (get_all kept.now (codes "retry-after"))) }
-{
-    let mut values = kept.get_all("retry-after").iter();
-    match values.next() {
-        Some(first) => asked_wait(first.as_bytes()),
-        None => None,
     }
 }

@@ -5,8 +5,8 @@
 //! - [`read_head`] reads the head of a message, of whatever kind implements [`ParseHead`] (RFC
 //!   9112, sections 2 to 5). [`HeadPlace`] says where a head is parsed, [`HeadLimits`] how much of
 //!   it is read, and [`HttpFault`] why there is none.
-//! - [`keep_fields`], [`content_length`] and [`retry_after`] read the fields of a head,
-//!   [`read_body`] reads the body.
+//! - [`keep_fields`] and [`content_length`] read the fields of a head, [`is_digits`] and
+//!   [`read_length`] a number in one, and [`read_body`] reads the body.
 //! - [`write_pieces`] writes a text piece by piece, and [`Front`] gathers its beginning for one
 //!   write.
 #![tactic(auto)]
@@ -26,7 +26,7 @@ mod wire;
 pub use body::{Framing, framing_by_fields, read_body, request_framing};
 pub use device::{Counted, DeviceFailed, FaultRead, FaultWrite};
 pub use fault::HttpFault;
-pub use fields::{content_length, keep_fields, retry_after};
+pub use fields::{content_length, is_digits, keep_fields, read_length};
 pub use front::{FRONT_ROOM, Front};
 pub use head::{ParseHead, read_head};
 pub use limits::{HeadLimits, MOST_FIELDS};

@@ -12,7 +12,8 @@ use Rattle.http_wire.specs.declared.limits.HeadLimits.{HeadLimits}
 use Rattle.otlp_http.specs.Replies.{framing_of, HttpReply, IsReply, RefusesHead, HasNoReply}
 use Rattle.http_wire.specs.Bodies.{IsBody}
 use Rattle.otlp_http.specs.Heads.{fields_of, ComesAfter, IsHeadText, IsInterimStatus}
-use Rattle.http_wire.specs.Fields.{values_of, IsTaken, retry_after}
+use Rattle.http_wire.specs.Fields.{values_of, IsTaken}
+use Rattle.otlp_http.specs.Waits.{retry_after}
 use Rattle.law_export.specs.Meanings.{BytesMeanOneReply, BytesMeanOneFault}
 use Rattle.law_export.proofs.Lacks.{Lack, lack_of, lacks_not, lacks_one}
 use Rattle.law_export.proofs.BodiesAgree.{body_one}

@@ -12,11 +12,12 @@ use Rattle.http_wire.specs.declared.fault.HttpFault.{HttpFault}
 use Rattle.http_wire.specs.declared.limits.HeadLimits.{HeadLimits}
 use Rattle.http_wire.specs.Bodies.{Framing, IsBody}
 use Rattle.http_wire.specs.Devices.{HasFailed}
-use Rattle.http_wire.specs.Fields.{NameAndValue, KeepsFields, retry_after}
+use Rattle.http_wire.specs.Fields.{NameAndValue, KeepsFields}
 use Rattle.otlp_http.specs.Heads.{fields_of}
 use Rattle.otlp_http.specs.Parses.{HasKeptHead}
 use Rattle.otlp_http.specs.Persistence.{lasts_with, lasts_after}
 use Rattle.otlp_http.specs.Replies.{IsReply, framing_of}
+use Rattle.otlp_http.specs.Waits.{retry_after}
 
 -- A head that is kept, and then a body, are a reply, and the connection lasts by that head.
 pub lasting : (limits : HeadLimits) (old mid new : Option (List ℕ))

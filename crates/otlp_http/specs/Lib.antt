@@ -8,3 +8,4 @@ pub mod Parses
 pub mod Replies
 pub mod Request
 pub mod Persistence
+pub mod Waits

@@ -9,7 +9,8 @@ use Rattle.http_wire.specs.declared.fault.HttpFault.TheVariants as faults
 use Rattle.http_wire.specs.declared.limits.HeadLimits.{HeadLimits}
 use Rattle.http_wire.specs.Bodies.{Framing, empty, to_end, framing_by_fields, IsBody}
 use Rattle.otlp_http.specs.Heads.{fields_of, ComesAfter, IsHeadText, IsInterimStatus, LacksHead}
-use Rattle.http_wire.specs.Fields.{NameAndValue, values_of, IsTaken, retry_after}
+use Rattle.http_wire.specs.Fields.{NameAndValue, values_of, IsTaken}
+use Rattle.otlp_http.specs.Waits.{retry_after}
 
 -- how far a body goes: there is none for 204 and 304, else as the fields say, and to the end where
 -- they say nothing (RFC 9112, section 6.3)

@@ -12,6 +12,7 @@ mod persistence;
 mod reply;
 mod request;
 mod target;
+mod wait;
 
 pub use headers::{HeaderFault, HeaderFields, MOST_HEADER_BYTES};
 pub use http_wire::{

@@ -13,10 +13,11 @@ ghost use Rattle.otlp_http.specs.Replies.{framing_of, HasNoReply, IsReply};
 
 use crate::head::read_final_head;
 use crate::persistence::lasts_with;
+use crate::wait::retry_after;
 use http_header::HeaderMap;
 use http_wire::{
     FaultRead, Framing, HeadLimits, HttpFault, MOST_FIELDS, framing_by_fields, keep_fields,
-    read_body, retry_after,
+    read_body,
 };
 use httparse::spans::HeaderSpan;
 use retry_core::RetryAfter;

@@ -21,7 +21,8 @@ use Rattle.http_wire.specs.declared.fault.HttpFault.{HttpFault}
 use Rattle.http_wire.specs.declared.limits.HeadLimits.{HeadLimits}
 use Rattle.otlp_http.specs.Replies.{framing_of}
 use Rattle.http_wire.specs.Bodies.{IsBody}
-use Rattle.http_wire.specs.Fields.{NameAndValue, IsTaken, retry_after, values_of}
+use Rattle.http_wire.specs.Fields.{NameAndValue, IsTaken, values_of}
+use Rattle.otlp_http.specs.Waits.{retry_after}
 use Rattle.otlp_http.specs.Heads.{fields_of, IsHeadText, IsInterim}
 use Rattle.http_wire.proofs.PlaceLemmas.{due_ends}
 use Rattle.otlp_http.specs.HeadLaws.{head_due}

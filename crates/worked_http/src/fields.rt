@@ -5,7 +5,8 @@ ghost use Rattle.retry_core.specs.declared.outcome.RetryAfter.TheVariants.{Date,
 ghost use Rattle.http_wire.specs.declared.fault.HttpFault.TheVariants.{BadLength};
 ghost use Rattle.http_wire.specs.Bodies.{chunked, empty, sized, to_end, unknown};
 ghost use Rattle.otlp_http.specs.Replies.{framing_of};
-ghost use Rattle.http_wire.specs.Fields.{content_length, retry_after, values_of};
+ghost use Rattle.http_wire.specs.Fields.{content_length, values_of};
+ghost use Rattle.otlp_http.specs.Waits.{retry_after};
 
 /// The values of a name, in any case of letters, in their order.
 pub fn values()
