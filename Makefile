@@ -25,7 +25,7 @@ ports:
 test: ports docs ## The gate: every proof, wrong bodies, tests and runs (from nothing an hour or two on four processors)
 	tools/lib-test
 	tools/run-runs
-	rt ci
+	tools/times rt ci
 	tools/wrong-bodies
 	tools/wrong-bodies-test
 	tools/runs

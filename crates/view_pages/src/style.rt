@@ -24,7 +24,7 @@ code, dd, .took, pre { font-family: ui-monospace, 'DejaVu Sans Mono', monospace;
 code, dd { font-size: 0.92em; }
 b, dt, dd, h5, td { unicode-bidi: isolate; }
 .rows { list-style: none; margin: 0; padding: 0 0 2rem; }
-.row { border-bottom: 1px solid var(--line); content-visibility: auto;
+.row { display: block; border-bottom: 1px solid var(--line); content-visibility: auto;
   contain-intrinsic-size: auto 30px; scroll-margin-top: 2rem; }
 .axis, summary { display: grid; grid-template-columns: minmax(14rem, 36%) 1fr 5.5rem;
   gap: 0.75rem; align-items: center; padding: 0 1.25rem; }
