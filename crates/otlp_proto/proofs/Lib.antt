@@ -1,3 +1,6 @@
+mod Adding
+mod Equal
+mod Grouped
 mod Laying
 mod Writing
 mod Values

@@ -1,3 +1,5 @@
+pub mod Keyed
+pub mod Group
 pub mod Encode
 pub mod Grouped
 pub mod Bodies

@@ -7,8 +7,8 @@ ghost use Rattle.otlp_span.specs.Dropped.{reason_view};
 ghost use Rattle.otlp_proto.specs.Bodies.{body_bytes, reason_of};
 
 use crate::encoder::{EncodeFault, encode};
+use crate::groups::group;
 use otlp_span::SpanData;
-use scope_group::group;
 use std::alloc::Allocator;
 
 /// The body of the request that exports these spans, grouped by resource and scope. It has at most

@@ -8,7 +8,7 @@ ghost use Rattle.model_message.specs.Reading.{Reads};
 ghost use Rattle.model_message.specs.Tables;
 ghost use Rattle.model_message.specs.Messages.{meaning, body_meaning};
 ghost use Rattle.model_export.specs.Export as model;
-ghost use Rattle.scope_group.specs.Group.{groups_view};
+ghost use Rattle.otlp_proto.specs.Group.{groups_view};
 ghost use Rattle.otlp_proto.specs.Bodies.{body_bytes, reason_of};
 
 mod fields;
@@ -19,10 +19,10 @@ mod sink;
 mod spans;
 mod values;
 
+use crate::groups::ResourceGroup;
 use groups::put_request;
 use otlp_ids::OutOfMemory;
 use otlp_span::Reason;
-use scope_group::ResourceGroup;
 use sink::{Buffer, Length};
 use spans::encoded_lens;
 use std::alloc::Allocator;

@@ -29,7 +29,7 @@ pub use Rattle.otlp_span.specs.Recording
 pub use Rattle.otlp_span.specs.Dropped as DroppedViews
 pub use Rattle.otlp_span.specs.Slips
 pub use Rattle.otlp_sampler.specs.Sampling as SamplerViews
-pub use Rattle.scope_group.specs.Group
+pub use Rattle.otlp_proto.specs.Group
 pub use Rattle.otlp_proto.specs.Encode
 pub use Rattle.otlp_proto.specs.Bodies
 pub use Rattle.otlp_wire.specs.Fields as WireFields

@@ -5,14 +5,14 @@ ghost use Rattle.model_message.specs.Tables;
 ghost use Rattle.model_message.specs.Canon.{field_bytes, bytes_field, canon};
 ghost use Rattle.model_message.specs.Whole.{IsMessage};
 ghost use Rattle.model_export.specs.Export as model;
-ghost use Rattle.scope_group.specs.Group.{scope_group_view, resource_group_view, groups_view};
+ghost use Rattle.otlp_proto.specs.Group.{scope_group_view, resource_group_view, groups_view};
 ghost use Rattle.otlp_proto.specs.Encode.{Carries, PutsAll, BeginLens};
 ghost use Rattle.otlp_proto.specs.Grouped.{spans_in, all_spans};
 
 use crate::encoder::fields::{WireType, put_key, put_text};
 use crate::encoder::messages::{put_one, put_sized};
 use crate::encoder::sink::{Length, Sink};
-use scope_group::{ResourceGroup, ScopeGroup};
+use crate::groups::{ResourceGroup, ScopeGroup};
 use std::alloc::Allocator;
 
 /// Puts the message of a scope's spans. The lengths of their messages come first in `lens`.

@@ -4,7 +4,7 @@ ghost use Rattle.model_message.specs.Tables;
 ghost use Rattle.model_span.specs.Spans.{has_remote_parent};
 ghost use Rattle.model_export.specs.Export as model;
 ghost use Rattle.otlp_span.specs.Parts.{kind_view, parent_id_view};
-ghost use Rattle.scope_group.specs.Group.{scope_group_view, resource_group_view, groups_view};
+ghost use Rattle.otlp_proto.specs.Group.{scope_group_view, resource_group_view, groups_view};
 ghost use Rattle.otlp_proto.specs.Encode.{Puts, AddsLens};
 ghost use Rattle.otlp_proto.specs.Grouped.{spans_in, all_spans};
 
@@ -12,9 +12,9 @@ use crate::encoder::fields::{put_bytes, put_enum, put_fixed32, put_fixed64, put_
 use crate::encoder::messages::{Submessage, encoded_len, put_each};
 use crate::encoder::parts::{flags_number, put_status};
 use crate::encoder::sink::Sink;
+use crate::groups::{ResourceGroup, ScopeGroup};
 use otlp_ids::{OutOfMemory, SpanId};
 use otlp_span::{Kind, SpanData};
-use scope_group::{ResourceGroup, ScopeGroup};
 use std::alloc::Allocator;
 
 /// The number of a kind in the protocol.

@@ -3,8 +3,7 @@
 use crate::tests::equal::{assert_displayed, assert_equal};
 use crate::tests::samples::{Sample, spans_of, spans_of_remote};
 use linked_list_allocator::LocalHeap;
-use otlp_proto::{EncodeFault, body_of, encode};
-use scope_group::{ResourceGroup, group};
+use otlp_proto::{EncodeFault, ResourceGroup, body_of, encode, group};
 use std::alloc::{Allocator, Global};
 use std::process::Abort;
 use test_support::FailingAllocator;

@@ -3,8 +3,7 @@ use crate::encoding::batches::{Shape, batch};
 use crate::encoding::reading::{empty_resources, memory_of, time_reading};
 use crate::encoding::writing::{time_copying, time_encoding, time_grouping};
 use anyhow::Result;
-use otlp_proto::{body_of, encode};
-use scope_group::group;
+use otlp_proto::{body_of, encode, group};
 use std::io::Write;
 
 /// How many spans a batch has, unless it is to show how times grow.

@@ -1,9 +1,8 @@
 //! Batches that are grouped and encoded, and bodies that are copied.
 use crate::encoding::figures::{Tenths, time_each, with_byte};
 use anyhow::Result;
-use otlp_proto::encode;
+use otlp_proto::{ResourceGroup, encode, group};
 use otlp_span::SpanData;
-use scope_group::{ResourceGroup, group};
 use std::alloc::Global;
 use std::time::{Clock, Instant};
 

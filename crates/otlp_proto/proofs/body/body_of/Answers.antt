@@ -1,4 +1,4 @@
-use Rattle.scope_group.specs.Group.{resource_group_view}
+use Rattle.otlp_proto.specs.Group.{resource_group_view}
 use Rattle.otlp_proto.proofs.Carried.{body-means, if-ok, lacks-body, spans_grouped}
 use Rattle.otlp_proto.proofs.body.body_of.Goals as goal
 

@@ -2,7 +2,7 @@ use Rattle.std.proofs.Common.{◌≡◌, ◌<◌, ◌^◌, [], length, arith, sy
 use Rattle.model_message.specs.Tables
 use Rattle.model_message.specs.Canon.{canon}
 use Rattle.model_export.specs.Export.{request_message, body_length}
-use Rattle.scope_group.specs.Group.{groups_view}
+use Rattle.otlp_proto.specs.Group.{groups_view}
 use Rattle.otlp_proto.specs.Bodies.{body_bytes}
 use Rattle.otlp_proto.specs.Encode.{PutsAll}
 use Rattle.otlp_proto.proofs.Laying.{counted-len}

@@ -3,7 +3,7 @@ use Rattle.model_message.specs.Tables
 use Rattle.model_message.specs.Canon.{canon}
 use Rattle.model_message.specs.Whole.{IsMessage}
 use Rattle.model_export.specs.Export.{resource_spans_message, request_message}
-use Rattle.scope_group.specs.Group.{resource_group_view, groups_view}
+use Rattle.otlp_proto.specs.Group.{resource_group_view, groups_view}
 use Rattle.otlp_proto.specs.Grouped.{spans_in}
 use Rattle.otlp_proto.proofs.Writing.{no-field, and-field, put-messages, each-none, each-more}
 use Rattle.otlp_proto.proofs.Writing.{through-index}

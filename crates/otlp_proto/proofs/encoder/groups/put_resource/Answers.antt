@@ -2,7 +2,7 @@ use Rattle.std.proofs.Common.{subst}
 use Rattle.model_message.specs.Tables
 use Rattle.model_message.specs.Canon.{canon}
 use Rattle.model_export.specs.Export.{resource_spans_message}
-use Rattle.scope_group.specs.Group.{resource_group_view}
+use Rattle.otlp_proto.specs.Group.{resource_group_view}
 use Rattle.otlp_proto.specs.Encode.{Lays}
 use Rattle.otlp_proto.proofs.Laying.{sized-field, counted-len}
 use Rattle.otlp_proto.proofs.encoder.groups.put_resource.Goals as goal

@@ -3,7 +3,7 @@ use Rattle.model_message.specs.Tables
 use Rattle.model_message.specs.Canon.{canon}
 use Rattle.model_message.specs.Whole.{IsMessage}
 use Rattle.model_export.specs.Export.{scope_spans_message}
-use Rattle.scope_group.specs.Group.{scope_group_view}
+use Rattle.otlp_proto.specs.Group.{scope_group_view}
 use Rattle.otlp_proto.proofs.Writing.{no-field, and-field, put-message, put-messages, each-none}
 use Rattle.otlp_proto.proofs.Writing.{each-more, through-index}
 use Rattle.otlp_proto.proofs.Lens.{begin-next, drop-next}

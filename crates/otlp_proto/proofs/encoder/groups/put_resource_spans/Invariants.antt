@@ -4,7 +4,7 @@ use Rattle.model_message.specs.Tables
 use Rattle.model_message.specs.Canon.{row_bytes, bytes_field, canon}
 use Rattle.model_message.specs.Whole.{IsMessage}
 use Rattle.model_export.specs.Export.{scope_spans_message}
-use Rattle.scope_group.specs.Group.{scope_group_view}
+use Rattle.otlp_proto.specs.Group.{scope_group_view}
 use Rattle.otlp_proto.specs.Encode.{Carries}
 use Rattle.otlp_proto.proofs.encoder.groups.put_resource_spans.Given as goal
 

@@ -1,5 +1,5 @@
 use Rattle.std.proofs.Common.{map, take, flat_map}
-use Rattle.scope_group.specs.Group.{scope_group_view}
+use Rattle.otlp_proto.specs.Group.{scope_group_view}
 use Rattle.otlp_proto.specs.Encode.{AddsLens}
 use Rattle.otlp_proto.proofs.encoder.spans.add_resource_lens.Given as goal
 

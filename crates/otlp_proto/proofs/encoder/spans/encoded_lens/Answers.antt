@@ -1,5 +1,5 @@
 use Rattle.std.proofs.Common.{take_all}
-use Rattle.scope_group.specs.Group.{resource_group_view}
+use Rattle.otlp_proto.specs.Group.{resource_group_view}
 use Rattle.otlp_proto.specs.Grouped.{spans_in}
 use Rattle.otlp_proto.proofs.Lens.{adds-none, adds-both, flat-more}
 use Rattle.otlp_proto.proofs.encoder.spans.encoded_lens.Goals as goal

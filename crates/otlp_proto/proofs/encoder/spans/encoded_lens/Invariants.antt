@@ -1,5 +1,5 @@
 use Rattle.std.proofs.Common.{take, []}
-use Rattle.scope_group.specs.Group.{groups_view}
+use Rattle.otlp_proto.specs.Group.{groups_view}
 use Rattle.otlp_proto.specs.Encode.{AddsLens}
 use Rattle.otlp_proto.specs.Grouped.{all_spans}
 use Rattle.otlp_proto.proofs.encoder.spans.encoded_lens.Given as goal

@@ -1,7 +1,7 @@
 use Rattle.std.proofs.Common.{◌≡◌, map, take}
 use Rattle.model_export.specs.Export.{groups_by, scope_eq}
-use Rattle.scope_group.specs.Group.{scopes_view}
-use Rattle.scope_group.proofs.groups.by_scope.Given as goal
+use Rattle.otlp_proto.specs.Group.{scopes_view}
+use Rattle.otlp_proto.proofs.groups.by_scope.Given as goal
 
 -- The groups are those of the spans so far.
 abbrev pub invariant-loop-span : goal.invariant-loop-span

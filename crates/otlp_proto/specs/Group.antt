@@ -7,9 +7,9 @@ use Rattle.model_export.specs.Export as model
 use Rattle.otlp_span.specs.declared.parts.Resource.{Resource}
 use Rattle.otlp_span.specs.declared.parts.Scope.{Scope}
 use Rattle.otlp_span.specs.Parts.{resource_view, scope_view}
-use Rattle.scope_group.specs.declared.groups.ScopeGroup.{ScopeGroup}
-use Rattle.scope_group.specs.declared.groups.ResourceGroup.{ResourceGroup}
-use Rattle.scope_group.specs.Keyed.{group_view, groups_of}
+use Rattle.otlp_proto.specs.declared.groups.ScopeGroup.{ScopeGroup}
+use Rattle.otlp_proto.specs.declared.groups.ResourceGroup.{ResourceGroup}
+use Rattle.otlp_proto.specs.Keyed.{group_view, groups_of}
 
 abbrev pub scope_group_view : {A : Type 0} → ScopeGroup A → model.ScopeGroup
 scope_group_view g = record { key = scope_view g.scope.now; items = map (λ s. s.now) g.spans.items }

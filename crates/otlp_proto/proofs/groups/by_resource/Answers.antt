@@ -3,10 +3,10 @@ use Rattle.std.proofs.lemmas.List.{take_more}
 use Rattle.model_export.specs.Export.{resource_eq}
 use Rattle.model_export.proofs.Equalities.{resource_eq-Decides}
 use Rattle.otlp_span.specs.Parts.{resource_view}
-use Rattle.scope_group.specs.Group.{resources_view}
-use Rattle.scope_group.proofs.Equal.{resource-same, value-same}
-use Rattle.scope_group.proofs.Grouped.{equivalence, no-groups, one-more}
-use Rattle.scope_group.proofs.groups.by_resource.Goals as goal
+use Rattle.otlp_proto.specs.Group.{resources_view}
+use Rattle.otlp_proto.proofs.Equal.{resource-same, value-same}
+use Rattle.otlp_proto.proofs.Grouped.{equivalence, no-groups, one-more}
+use Rattle.otlp_proto.proofs.groups.by_resource.Goals as goal
 
 pub loop-span-init : goal.loop-span-init
 loop-span-init g c = ap resources_view c.new-resources.ensures.empty ∙ sym (no-groups _ _)

@@ -1,7 +1,7 @@
 //! Items under keys, in the order in which the keys came first.
 ghost use Rattle.std.specs.Prelude.{◌≡◌, IfSome, OnOk, Some};
 ghost use Rattle.indexmap.specs.IndexMap.{index_of};
-ghost use Rattle.scope_group.specs.Keyed.{groups_of, with_item};
+ghost use Rattle.otlp_proto.specs.Keyed.{groups_of, with_item};
 
 use indexmap::IndexMap;
 use otlp_ids::OutOfMemory;

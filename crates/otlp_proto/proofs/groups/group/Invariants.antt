@@ -1,7 +1,7 @@
 use Rattle.std.proofs.Common.{◌≡◌, ◌++◌, map}
-use Rattle.scope_group.specs.Group.{resource_group_view, resources_view}
-use Rattle.scope_group.proofs.Grouped.{by_scope}
-use Rattle.scope_group.proofs.groups.group.Given as goal
+use Rattle.otlp_proto.specs.Group.{resource_group_view, resources_view}
+use Rattle.otlp_proto.proofs.Grouped.{by_scope}
+use Rattle.otlp_proto.proofs.groups.group.Given as goal
 
 -- The groups, and then the resources that are left, are all resources.
 abbrev pub invariant-loop-resource : goal.invariant-loop-resource

@@ -1,6 +1,6 @@
 use Rattle.std.proofs.Common.{◌≡◌, ◌++◌, map}
-use Rattle.scope_group.specs.Group.{scope_group_view, scopes_view}
-use Rattle.scope_group.proofs.groups.scope_groups.Given as goal
+use Rattle.otlp_proto.specs.Group.{scope_group_view, scopes_view}
+use Rattle.otlp_proto.proofs.groups.scope_groups.Given as goal
 
 -- The groups, and then the scopes that are left, are all scopes.
 abbrev pub invariant-loop-scope : goal.invariant-loop-scope

@@ -1,7 +1,7 @@
 use Rattle.std.proofs.Common.{◌∙◌, ap, rules}
 use Rattle.std.specs.Option.{unwrap_or}
-use Rattle.scope_group.proofs.Adding.{added-after, added-by-entry}
-use Rattle.scope_group.proofs.keyed.add.Goals as goal
+use Rattle.otlp_proto.proofs.Adding.{added-after, added-by-entry}
+use Rattle.otlp_proto.proofs.keyed.add.Goals as goal
 
 pub returns-in-Some : goal.returns-in-Some
 returns-in-Some g c =

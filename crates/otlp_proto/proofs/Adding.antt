@@ -10,7 +10,7 @@ use Rattle.std.proofs.lemmas.List.Quantifiers.{position-Some}
 use Rattle.indexmap.specs.IndexMap.{insert_entry, set_value_at}
 use Rattle.indexmap.proofs.MapLemmas.{index-first}
 use Rattle.indexmap.proofs.RemoveLemmas.{own_first}
-use Rattle.scope_group.specs.Keyed.{groups_of, with_item}
+use Rattle.otlp_proto.specs.Keyed.{groups_of, with_item}
 
 -- A key that equals the last one is at the place of the last one.
 pub last-index : {K X : Type 0} (eq : K → K → Bool) → IsEquivalence eq

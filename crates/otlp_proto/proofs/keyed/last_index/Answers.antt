@@ -1,6 +1,6 @@
 use Rattle.std.proofs.Common.{sym, ◌∙◌}
-use Rattle.scope_group.proofs.Adding.{last-index}
-use Rattle.scope_group.proofs.keyed.last_index.Goals as goal
+use Rattle.otlp_proto.proofs.Adding.{last-index}
+use Rattle.otlp_proto.proofs.keyed.last_index.Goals as goal
 
 pub returns : goal.returns
 returns g c =

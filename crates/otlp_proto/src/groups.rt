@@ -1,8 +1,8 @@
 //! Groups of spans, and how they are made.
 ghost use Rattle.std.specs.Prelude.{◌≡◌, ◌≢◌, [], IfOk, OnErr, map};
 ghost use Rattle.model_export.specs.Export as model;
-ghost use Rattle.scope_group.specs.Group.{groups_view, resources_view, scope_group_view};
-ghost use Rattle.scope_group.specs.Group.{scopes_view};
+ghost use Rattle.otlp_proto.specs.Group.{groups_view, resources_view, scope_group_view};
+ghost use Rattle.otlp_proto.specs.Group.{scopes_view};
 
 use crate::keyed::{Keyed, add};
 use indexmap::IndexMap;

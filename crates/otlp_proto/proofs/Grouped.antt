@@ -13,7 +13,7 @@ use Rattle.model_span.proofs.Lists.{distinct-more, filter-keeps}
 use Rattle.model_span.specs.Spans.{Resource, SpanData}
 use Rattle.model_export.specs.Export.{Group, ResourceGroup, scope_eq, resource_eq, groups_by}
 use Rattle.model_export.specs.Export.{groups}
-use Rattle.scope_group.specs.Keyed.{group_view, with_item}
+use Rattle.otlp_proto.specs.Keyed.{group_view, with_item}
 
 -- A test that decides equality is an equivalence.
 pub equivalence : {K : Type 0} (same : K → K → Bool) → ((j k : K) → Decides (same j k) (j ≡ k))

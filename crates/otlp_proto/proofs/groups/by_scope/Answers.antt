@@ -3,10 +3,10 @@ use Rattle.std.proofs.lemmas.List.{map-append, take_more}
 use Rattle.model_export.specs.Export.{scope_eq}
 use Rattle.model_export.proofs.Equalities.{scope_eq-Decides}
 use Rattle.otlp_span.specs.Parts.{scope_view}
-use Rattle.scope_group.specs.Group.{scopes_view}
-use Rattle.scope_group.proofs.Equal.{scope-same, value-same}
-use Rattle.scope_group.proofs.Grouped.{equivalence, no-groups, one-more}
-use Rattle.scope_group.proofs.groups.by_scope.Goals as goal
+use Rattle.otlp_proto.specs.Group.{scopes_view}
+use Rattle.otlp_proto.proofs.Equal.{scope-same, value-same}
+use Rattle.otlp_proto.proofs.Grouped.{equivalence, no-groups, one-more}
+use Rattle.otlp_proto.proofs.groups.by_scope.Goals as goal
 
 pub loop-span-init : goal.loop-span-init
 loop-span-init g c = ap scopes_view c.new-scopes.ensures.empty ∙ sym (no-groups _ _)

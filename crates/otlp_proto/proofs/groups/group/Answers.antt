@@ -1,7 +1,7 @@
 use Rattle.std.proofs.Common.{◌∙◌, ap, map}
-use Rattle.scope_group.specs.Group.{resource_group_view, resources_view}
-use Rattle.scope_group.proofs.Grouped.{all-grouped, on-err, some-spans}
-use Rattle.scope_group.proofs.groups.group.Goals as goal
+use Rattle.otlp_proto.specs.Group.{resource_group_view, resources_view}
+use Rattle.otlp_proto.proofs.Grouped.{all-grouped, on-err, some-spans}
+use Rattle.otlp_proto.proofs.groups.group.Goals as goal
 
 pub returns-in_err-scopes-clause-refused : goal.returns-in_err-scopes-clause-refused
 returns-in_err-scopes-clause-refused g c =
