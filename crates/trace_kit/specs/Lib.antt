@@ -12,14 +12,7 @@ pub use Rattle.model_desk.specs.Desks
 pub use Rattle.model_desk.specs.Queue
 pub use Rattle.model_desk.specs.Retries
 pub use Rattle.model_desk.specs.Waits
-pub use Rattle.law_desk.specs.Queues
-pub use Rattle.law_run.specs.Laws as RunLaws
 pub use Rattle.model_export.specs.Export
-pub use Rattle.model_run.specs.Steps
-pub use Rattle.model_run.specs.History
-pub use Rattle.model_run.specs.Runs
-pub use Rattle.model_run.specs.Answers
-pub use Rattle.model_run.specs.Headline
 pub use Rattle.otlp_ids.specs.SpanContext
 pub use Rattle.otlp_ids.specs.WordStream
 pub use Rattle.otlp_value.specs.AttributeList
@@ -39,8 +32,6 @@ pub use Rattle.trace_api.specs.Pass
 pub use Rattle.trace_api.specs.Starts as TracerStarts
 pub use Rattle.trace_api.specs.ExtCalls as ShortCalls
 pub use Rattle.trace_api.specs.Lent
-pub use Rattle.trace_history.specs.Answers as AnswerViews
-pub use Rattle.trace_history.specs.Steps as StepViews
 pub use Rattle.span_exporter.specs.Handed
 pub use Rattle.span_exporter.specs.Memory as ExporterMemory
 pub use Rattle.span_exporter.specs.Room as ExporterRoom
@@ -69,12 +60,6 @@ pub use Rattle.batch_processor.specs.Views as BatchViews
 pub use Rattle.batch_processor.specs.Answers as BatchAnswers
 pub use Rattle.batch_processor.specs.Holds as BatchHolds
 pub use Rattle.batch_processor.specs.Attempts as BatchWorking
-pub use Rattle.trace_run.specs.Lines
-pub use Rattle.trace_run.specs.Out
-pub use Rattle.trace_run.specs.Run
-pub use Rattle.trace_run.specs.Report
-pub use Rattle.trace_run.specs.State
-pub use Rattle.trace_run.specs.Headline as RunHeadline
 pub use Rattle.otlp_http.specs.Address
 pub use Rattle.otlp_http.specs.Fields as RequestFields
 pub use Rattle.http_wire.specs.Devices

@@ -1,9 +1,8 @@
 //! A tracing kit by OpenTelemetry's API and SDK: the names of all that a program needs, in groups.
 //!
 //! A [`service`] is the short way. A program makes its spans with [`trace`], and hands them to an
-//! exporter by [`processor`], or by [`queue`] and [`export`]; [`propagation`] carries a trace to other services, [`http`] has
-//! exporters to a collector, [`settings`] what the environment sets, [`run`] whole programs as
-//! lists of steps.
+//! exporter by [`processor`], or by [`queue`] and [`export`]; [`propagation`] carries a trace to
+//! other services, [`http`] has exporters to a collector, [`settings`] what the environment sets.
 #![tactic(auto)]
 
 pub mod export;
@@ -11,7 +10,6 @@ pub mod http;
 pub mod processor;
 pub mod propagation;
 pub mod queue;
-pub mod run;
 pub mod service;
 pub mod settings;
 pub mod trace;
