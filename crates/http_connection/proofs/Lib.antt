@@ -2,3 +2,4 @@ mod Fields
 mod Known
 pub mod RunLemmas
 mod Safety
+mod Dates

@@ -12,3 +12,4 @@ pub mod Tallies
 pub mod Texts
 pub mod Turns
 pub mod Stages
+pub mod Dates

@@ -4,10 +4,12 @@
 //!
 //! A [`Connection`] reads what a [`Service`] has to answer from bytes that the caller reads, and
 //! keeps the bytes that the caller is to write. [`reply`] has what a service of exports says
-//! where it refuses a request, and in what formats it answers.
+//! where it refuses a request, and in what formats it answers. [`say_date`] gives a response the
+//! field `Date`, which a server with a clock sends.
 #![tactic(auto)]
 
 mod connection;
+mod date;
 mod encode;
 mod input;
 mod limits;
@@ -17,5 +19,6 @@ mod service;
 mod steps;
 
 pub use connection::Connection;
+pub use date::say_date;
 pub use limits::{Limits, Phase, Refusal};
 pub use service::{Gathers, Pieces, Service};

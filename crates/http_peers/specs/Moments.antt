@@ -2,7 +2,7 @@
 use Rattle.std.specs.Prelude.{◌≡◌, ◌⊎◌, ℕ}
 use Rattle.http_connection.specs.Turns.{Turn, Admitted, Rejected, Answered, Refused}
 use Rattle.http_server.specs.declared.response.Response.{Response}
-use Rattle.response_date.specs.Dates.{SaysDate}
+use Rattle.http_connection.specs.Dates.{SaysDate}
 use Rattle.http_peers.specs.declared.dated.Dated.{Dated}
 
 -- The response as it was, or with the moment at which it was made.

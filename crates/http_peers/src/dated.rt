@@ -5,9 +5,8 @@ ghost use Rattle.http_peers.specs.Moments.{MayBeDated};
 
 use bytes::Bytes;
 use http::Request;
-use http_connection::{Gathers, Refusal, Service};
+use http_connection::{Gathers, Refusal, Service, say_date};
 use http_server::Response;
-use response_date::say_date;
 use std::alloc::{AllocError, Global};
 use std::time::Clock;
 

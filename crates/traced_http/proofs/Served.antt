@@ -17,7 +17,7 @@ use Rattle.trace_api.specs.Starts.{tracer_view}
 use Rattle.trace_api.specs.declared.pass.Ended.{Ended}
 use Rattle.traced_http.specs.Attributes.{ending_of, request_pairs}
 use Rattle.http.specs.Request.{head_of}
-use Rattle.response_date.specs.Dates.{SaysDate}
+use Rattle.http_connection.specs.Dates.{SaysDate}
 use Rattle.traced_http.specs.RequestSpans.{GoesOn, GoesOnIfAny, LentSpan, counted, lent_span}
 use Rattle.traced_http.specs.Serves.{Answered, Answers, IsTraced, IsUntraced, Serves, Serving}
 use Rattle.traced_http.specs.ServerSpans.{HasStarted, HasStartedOrNone, request_calls}

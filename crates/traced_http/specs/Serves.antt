@@ -17,7 +17,7 @@ use Rattle.traced_http.specs.declared.server.service.TracedService.{TracedServic
 use Rattle.trace_api.specs.Counts.{counted_requests}
 use Rattle.trace_api.specs.Endings.{ending_calls}
 use Rattle.trace_api.specs.Ends.{Handed}
-use Rattle.response_date.specs.Dates.{SaysDate}
+use Rattle.http_connection.specs.Dates.{SaysDate}
 use Rattle.traced_http.specs.Attributes.{Server, ending_of, server_view}
 use Rattle.traced_http.specs.Carried.{carried}
 use Rattle.traced_http.specs.RequestSpans.{LentSpan, counted, lent_span}

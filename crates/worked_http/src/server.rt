@@ -9,7 +9,7 @@ ghost use Rattle.trace_api.specs.Endings.{ending_calls};
 ghost use Rattle.model_span.specs.Attributes.{int, text};
 ghost use Rattle.model_span.specs.Spans.{error, set_attribute, set_status};
 ghost use Rattle.traced_http.specs.Attributes.{ending_of};
-ghost use Rattle.response_date.specs.Dates.{has_date, second_of};
+ghost use Rattle.http_connection.specs.Dates.{has_date, second_of};
 ghost use Rattle.traced_http.specs.Methods.{listed_methods, original_method, shown_method};
 ghost use Rattle.traced_http.specs.Methods.{span_name, standard_methods};
 

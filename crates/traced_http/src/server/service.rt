@@ -14,11 +14,11 @@ use crate::server::start::Tracing;
 use crate::span::end_if_any;
 use bytes::Bytes;
 use http::{Request, StatusCode};
+use http_connection::say_date;
 use http_server::{Response, Service};
 use otlp_sampler::Sampler;
 use otlp_span::SpanData;
 use rand_core::Rng;
-use response_date::say_date;
 use std::alloc::{AllocError, Global};
 use trace_api::{Clock, EndPass, Ending, count_untraced};
 

@@ -1,5 +1,5 @@
-use Rattle.response_date.proofs.Dates.{is-dated}
-use Rattle.response_date.proofs.date.add_date.Goals as goal
+use Rattle.http_connection.proofs.Dates.{is-dated}
+use Rattle.http_connection.proofs.date.add_date.Goals as goal
 
 pub returns-clause-added : goal.returns-clause-added
 returns-clause-added c =

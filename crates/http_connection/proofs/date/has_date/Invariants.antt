@@ -1,7 +1,7 @@
 use Rattle.std.proofs.Common.{◌≡◌, length}
 use Rattle.http_server.specs.Response.{fields}
-use Rattle.response_date.specs.Dates.{has_date}
-use Rattle.response_date.proofs.date.has_date.Given as goal
+use Rattle.http_connection.specs.Dates.{has_date}
+use Rattle.http_connection.proofs.date.has_date.Given as goal
 
 -- those that are done are others
 abbrev pub invariant-loop-rest : goal.invariant-loop-rest

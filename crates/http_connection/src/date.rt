@@ -3,8 +3,8 @@
 ghost use Rattle.std.specs.Prelude.{◌≡◌, IfOk, OnErr, OnOk};
 ghost use Rattle.http_server.specs.Response.{fields, fields_of};
 ghost use Rattle.httpdate.specs.Date.{unix_secs};
-ghost use Rattle.response_date.specs.Dates as spec;
-ghost use Rattle.response_date.specs.Dates.{IsDated, SaysDate};
+ghost use Rattle.http_connection.specs.Dates as spec;
+ghost use Rattle.http_connection.specs.Dates.{IsDated, SaysDate};
 
 use http::{HeaderName, HeaderValue};
 use http_server::Response;

@@ -4,7 +4,7 @@ use Rattle.http1.specs.Fields.{Header}
 use Rattle.http_header.specs.FieldValue.{FieldValue, plain_value}
 use Rattle.httpdate.specs.Date.{date_text, unix_secs}
 use Rattle.httpdate.specs.declared.date.HttpDate.{HttpDate}
-use Rattle.response_date.specs.Dates.{IsDated, second_of}
+use Rattle.http_connection.specs.Dates.{IsDated, second_of}
 
 -- A field with this name and the text of a date says the date's moment.
 pub is-dated : (at : ℕ) (old new : List Header) (date : HttpDate) (name text : List ℕ)
