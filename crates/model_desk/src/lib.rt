@@ -1,4 +1,4 @@
 //! What becomes of ended spans in the queue of a batch processor (OpenTelemetry Trace SDK, Batching
 //! processor) and of the batches that are sent (OTLP Specification): definitions. Their laws are in
-//! crate `law_desk`.
+//! crate `model_run`.
 #![tactic(auto)]

@@ -7,7 +7,7 @@ use Rattle.model_span.specs.Attributes.{distinct_of}
 use Rattle.model_span.specs.Spans.{SpanData}
 use Rattle.model_desk.specs.Retries.{Outcome}
 use Rattle.model_desk.specs.Queue.{last_batch, last_spans}
-use Rattle.law_desk.specs.Queues.{places}
+use Rattle.model_run.specs.Queues.{places}
 use Rattle.model_run.specs.History.{Setup}
 use Rattle.model_run.specs.Runs.{Answer, sent, Answered, ended_by, desk_events}
 use Rattle.model_run.specs.Answers.{Progress, not_out, progress, last_attempt}

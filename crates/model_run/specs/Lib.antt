@@ -3,3 +3,5 @@ pub mod Answers
 pub mod Headline
 pub mod Steps
 pub mod History
+pub mod Queues
+pub mod Laws

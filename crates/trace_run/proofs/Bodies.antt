@@ -9,13 +9,13 @@ use Rattle.model_message.specs.Messages.{body_meaning}
 use Rattle.model_export.specs.Export.{groups, grouped_triples}
 use Rattle.model_desk.specs.Queue.{DeskEvent, batch_sizes, batch_spans, last_batch, size_of_take}
 use Rattle.model_desk.specs.Desks.{Desk, IsDesk, AreAllowed}
-use Rattle.law_desk.specs.Queues.{BatchesStay}
+use Rattle.model_run.specs.Queues.{BatchesStay}
 use Rattle.model_run.specs.History.{Setup}
 use Rattle.model_run.specs.Runs.{Answered, event_by, desk_events}
 use Rattle.model_run.specs.Answers.{RunConfig}
 use Rattle.model_run.specs.Headline.{EachOnce, attempts, AreNumbered}
 use Rattle.model_run.proofs.More.{events-more}
-use Rattle.law_run.specs.Laws.{HandedAreTheBatches, LedgerNamesTheDropped}
+use Rattle.model_run.specs.Laws.{HandedAreTheBatches, LedgerNamesTheDropped}
 use Rattle.otlp_proto.specs.Bodies.{body_bytes}
 use Rattle.span_exporter.specs.Handed.{Handed}
 use Rattle.trace_run.specs.State.{HasItsBody, TellsAll}

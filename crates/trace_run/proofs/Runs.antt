@@ -13,7 +13,7 @@ use Rattle.model_desk.specs.Desks.{Desk, IsDesk, AreAllowed, new_desk}
 use Rattle.model_run.specs.Runs.{Answered, ended_by, desk_events}
 use Rattle.model_run.specs.Answers.{RunConfig, AreAnswers}
 use Rattle.model_run.specs.Headline.{Attempt, attempt_by, attempts}
-use Rattle.law_run.specs.Laws.{OfRuns, IsAllowed}
+use Rattle.model_run.specs.Laws.{OfRuns, IsAllowed}
 use Rattle.span_exporter.specs.Handed.{Handed}
 use Rattle.trace_run.specs.Table.{IsTable, TableWith}
 use Rattle.trace_history.specs.Answers.{answer_view, history_view}

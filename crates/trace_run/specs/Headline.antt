@@ -10,8 +10,8 @@ use Rattle.model_run.specs.History.{Setup}
 use Rattle.model_run.specs.Runs.{Answered, desk_events}
 use Rattle.model_run.specs.Answers.{RunConfig}
 use Rattle.model_run.specs.Headline.{EachOnce, Attempt, attempts, AreNumbered}
-use Rattle.law_run.specs.Laws.{HandedAreTheBatches, WaitingAreEnded, BatchesAreEnded}
-use Rattle.law_run.specs.Laws.{DropsNameEnded, LedgerNamesTheDropped}
+use Rattle.model_run.specs.Laws.{HandedAreTheBatches, WaitingAreEnded, BatchesAreEnded}
+use Rattle.model_run.specs.Laws.{DropsNameEnded, LedgerNamesTheDropped}
 use Rattle.otlp_proto.specs.Bodies.{body_bytes}
 use Rattle.span_exporter.specs.Handed.{Handed, Gains}
 

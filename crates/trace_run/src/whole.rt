@@ -6,12 +6,12 @@ ghost use Rattle.model_run.specs.Answers.{AreAnswers, desk_after};
 ghost use Rattle.model_run.specs.Headline.{pending_after};
 ghost use Rattle.trace_history.specs.Answers.{history_view};
 ghost use Rattle.trace_run.specs.Out.{shown};
-ghost use Rattle.law_run.specs.Laws.{LateAfterShutdown, DroppedWhereFull, QueuedWhereRoom};
-ghost use Rattle.law_run.specs.Laws.{TakenWhereDue, TakesTheFirst, TakenAfterShutdown};
-ghost use Rattle.law_run.specs.Laws.{OneBatchIsOut, EncodedWhereItFits, DroppedUnencoded};
-ghost use Rattle.law_run.specs.Laws.{DroppedBatchIsNamed, AttemptsAreNumbered, AttemptsAreFew};
-ghost use Rattle.law_run.specs.Laws.{AttemptsAreFiveAtMost, NoAttemptIsEarly, RepliesAreDecided};
-ghost use Rattle.law_run.specs.Laws.{HandedAreNotDropped, LedgerNamesTheDropped, LossesAreNamed};
+ghost use Rattle.model_run.specs.Laws.{LateAfterShutdown, DroppedWhereFull, QueuedWhereRoom};
+ghost use Rattle.model_run.specs.Laws.{TakenWhereDue, TakesTheFirst, TakenAfterShutdown};
+ghost use Rattle.model_run.specs.Laws.{OneBatchIsOut, EncodedWhereItFits, DroppedUnencoded};
+ghost use Rattle.model_run.specs.Laws.{DroppedBatchIsNamed, AttemptsAreNumbered, AttemptsAreFew};
+ghost use Rattle.model_run.specs.Laws.{AttemptsAreFiveAtMost, NoAttemptIsEarly, RepliesAreDecided};
+ghost use Rattle.model_run.specs.Laws.{HandedAreNotDropped, LedgerNamesTheDropped, LossesAreNamed};
 ghost use Rattle.trace_run.specs.Report.{OfRun};
 ghost use Rattle.trace_run.specs.Run.{run_config};
 ghost use Rattle.trace_run.specs.Headline.{AreCanonical, Headline};
@@ -23,10 +23,10 @@ use crate::report::RunReport;
 use crate::running::Running;
 use crate::sending::BatchExport;
 use batch_desk::Desk;
-use law_desk::batches_are_slices;
-use law_run::{
-    attempts_are_answered, encodings_are_answered, ends_are_answered, losses_are_named,
-    none_is_unaccounted_for, one_batch_is_out, queued_spans_are_ended, takes_are_answered,
+use model_run::{
+    attempts_are_answered, batches_are_slices, encodings_are_answered, ends_are_answered,
+    losses_are_named, none_is_unaccounted_for, one_batch_is_out, queued_spans_are_ended,
+    takes_are_answered,
 };
 use otlp_ids::OutOfMemory;
 use otlp_sampler::Sampler;

@@ -5,7 +5,7 @@ use Rattle.model_span.specs.Spans.{SpanData}
 use Rattle.model_desk.specs.Retries.{Outcome, Next, later, seconds, again}
 use Rattle.model_desk.specs.Queue.{DeskEvent, handed_spans}
 use Rattle.model_desk.specs.Desks.{Desk}
-use Rattle.law_desk.specs.Queues.{places}
+use Rattle.model_run.specs.Queues.{places}
 use Rattle.model_run.specs.Steps.{Step}
 use Rattle.model_run.specs.Runs.{Answer, taken, encoded, sent, replied, Answered, desk_events}
 use Rattle.model_run.specs.Headline.{PendingBatch, pending_after}

@@ -19,7 +19,7 @@ use Rattle.model_export.specs.Export.{groups, body_length}
 use Rattle.model_desk.specs.Retries.{Outcome, no_reply, Next}
 use Rattle.model_desk.specs.Queue.{DeskEvent, batch_spans}
 use Rattle.model_desk.specs.Desks.{DeskConfig, Desk, desk_of}
-use Rattle.law_desk.specs.Queues.{places}
+use Rattle.model_run.specs.Queues.{places}
 use Rattle.model_desk.specs.Waits.{RetryConfig}
 use Rattle.model_run.specs.Steps.{Parent, root, Step}
 use Rattle.model_run.specs.History.{Setup, start_results_after}

@@ -1,11 +1,11 @@
 use Rattle.std.proofs.Common.{◌<◌, ◌+◌, ◌-◌, ◌^◌, refl, sym, ap, ◌∙◌, arith, length, take, take_all}
 use Rattle.std.proofs.lemmas.List.{length_push}
 use Rattle.model_run.specs.Runs.{Answered}
-use Rattle.law_run.specs.Laws.{OfSettings, LateAfterShutdown, DroppedWhereFull, QueuedWhereRoom}
-use Rattle.law_run.specs.Laws.{TakenWhereDue, TakesTheFirst, TakenAfterShutdown, OneBatchIsOut}
-use Rattle.law_run.specs.Laws.{EncodedWhereItFits, DroppedUnencoded, AttemptsAreNumbered}
-use Rattle.law_run.specs.Laws.{AttemptsAreFew, AttemptsAreFiveAtMost, NoAttemptIsEarly}
-use Rattle.law_run.specs.Laws.{RepliesAreDecided}
+use Rattle.model_run.specs.Laws.{OfSettings, LateAfterShutdown, DroppedWhereFull, QueuedWhereRoom}
+use Rattle.model_run.specs.Laws.{TakenWhereDue, TakesTheFirst, TakenAfterShutdown, OneBatchIsOut}
+use Rattle.model_run.specs.Laws.{EncodedWhereItFits, DroppedUnencoded, AttemptsAreNumbered}
+use Rattle.model_run.specs.Laws.{AttemptsAreFew, AttemptsAreFiveAtMost, NoAttemptIsEarly}
+use Rattle.model_run.specs.Laws.{RepliesAreDecided}
 use Rattle.trace_history.specs.Answers.{answer_view, history_view}
 use Rattle.trace_history.specs.Steps.{step_view}
 use Rattle.trace_run.specs.Run.{run_config}

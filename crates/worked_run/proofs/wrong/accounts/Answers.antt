@@ -4,7 +4,7 @@ use Rattle.std.proofs.lemmas.List.Sorted.{sum_by-IsPermutation}
 use Rattle.model_span.specs.Identifiers.{first_valid}
 use Rattle.model_span.specs.Starts.{started_span, ids_of, ids_words}
 use Rattle.model_run.specs.History.{start_results_after}
-use Rattle.law_desk.specs.Queues.{times}
+use Rattle.model_run.specs.Queues.{times}
 use Rattle.model_run.specs.Runs.{ended_by, desk_events}
 use Rattle.worked_run.proofs.wrong.accounts.Goals as goal
 

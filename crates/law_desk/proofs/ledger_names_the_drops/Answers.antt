@@ -1,5 +1,0 @@
-use Rattle.law_desk.proofs.Ledgers.{ledger-names, ledger-and-popped}
-use Rattle.law_desk.proofs.ledger_names_the_drops.Goals as goal
-
-pub returns : goal.returns
-returns c = record { unpopped = ledger-names; popped = ledger-and-popped }

@@ -1,6 +1,0 @@
-use Rattle.law_run.proofs.Ends.{ended-stay, ended-are-few}
-use Rattle.law_run.proofs.Values.{ended-by-the-steps}
-use Rattle.law_run.proofs.ended_spans_stay.Goals as goal
-
-pub returns : goal.returns
-returns c = record { stay = ended-stay; few = ended-are-few; steps = ended-by-the-steps }

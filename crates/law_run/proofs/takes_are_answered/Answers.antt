@@ -1,7 +1,0 @@
-use Rattle.law_run.proofs.Answered.{taken-where-due, takes-the-first}
-use Rattle.law_run.proofs.Steps.{taken-after-shutdown}
-use Rattle.law_run.proofs.takes_are_answered.Goals as goal
-
-pub returns : goal.returns
-returns c =
-    record { due = taken-where-due; first = takes-the-first; shutdown = taken-after-shutdown }
