@@ -16,9 +16,9 @@ use Rattle.batch_desk.specs.Views.{config_view}
 use Rattle.retry_core.specs.declared.outcome.Outcome.{Outcome}
 use Rattle.retry_core.specs.Retries.{outcome_view}
 use Rattle.span_script.specs.declared.sampler.SamplerName.{SamplerName}
-use Rattle.trace_history.specs.declared.step.Step.{Step as CodeStep}
+use Rattle.trace_run.specs.declared.step.Step.{Step as CodeStep}
 use Rattle.span_script.specs.declared.draft.Draft.{Draft}
-use Rattle.trace_history.specs.Steps.{step_view}
+use Rattle.trace_run.specs.Steps.{step_view}
 use Rattle.span_script.specs.Lines.{words, sampler, limits, desk, max_body, resource, scope}
 use Rattle.span_script.specs.Lines.{scope_attribute, outcome, step}
 use Rattle.span_script.specs.declared.scope.ScopeDraft.{ScopeDraft}

@@ -7,7 +7,7 @@ use Rattle.model_span.specs.Spans as spans
 use Rattle.otlp_span.specs.Parts.{limits_view}
 use Rattle.batch_desk.specs.Views.{config_view}
 use Rattle.retry_core.specs.Retries.{outcome_view}
-use Rattle.trace_history.specs.Steps.{step_view}
+use Rattle.trace_run.specs.Steps.{step_view}
 use Rattle.text_words.specs.Words.{◌>>=◌}
 use Rattle.span_script.specs.Lines.{Line, words, sampler, limits, desk, max_body, resource, scope}
 use Rattle.span_script.specs.Lines.{scope_attribute, outcome, step, line_of}

@@ -13,7 +13,7 @@ use Rattle.otlp_span.specs.Parts.{limits_view}
 use Rattle.span_ring.specs.declared.ring.TheConstants.{MAX_QUEUE}
 use Rattle.batch_desk.specs.Views.{config_view}
 use Rattle.retry_core.specs.Retries.{outcome_view}
-use Rattle.trace_history.specs.Steps.{step_view}
+use Rattle.trace_run.specs.Steps.{step_view}
 use Rattle.text_words.specs.Words.{◌>>=◌, each_of, number_below, hex_word, text_of}
 use Rattle.span_script.specs.Values.{pair_of}
 use Rattle.span_script.specs.Outcomes.{outcome_of_words}

@@ -6,7 +6,7 @@ use Rattle.otlp_span.specs.Parts.{limits_view, scope_view}
 use Rattle.batch_desk.specs.Views.{config_view}
 use Rattle.batch_desk.specs.Desk.{default_config}
 use Rattle.retry_core.specs.Retries.{outcome_view}
-use Rattle.trace_history.specs.Steps.{step_view}
+use Rattle.trace_run.specs.Steps.{step_view}
 use Rattle.model_span.specs.Spans.{default_limits}
 use Rattle.span_script.specs.Scripts.{Script, all_kept, kept_scope, IsLine}
 use Rattle.span_script.specs.declared.sampler.SamplerName.TheVariants.{AlwaysOn}

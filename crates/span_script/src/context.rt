@@ -3,7 +3,7 @@
 ghost use Rattle.std.specs.Prelude.{◌≡◌, ok_or};
 ghost use Rattle.otlp_ids.specs.SpanContext.{context_view};
 ghost use Rattle.text_words.specs.Words.{Gives, hex_bytes};
-ghost use Rattle.trace_history.specs.Steps.{parent_name_view};
+ghost use Rattle.trace_run.specs.Steps.{parent_name_view};
 ghost use Rattle.span_script.specs.Contexts.{context_of, given_of, is_remote_of, joined_context_of};
 ghost use Rattle.span_script.specs.Contexts.{parent_of, plain_parent_of};
 ghost use Rattle.text_words.specs.declared.WordFault.TheVariants.{Bad};
@@ -12,7 +12,7 @@ use otlp_ids::{SpanContext, SpanId, TraceFlags, TraceId};
 use std::alloc::Allocator;
 use std::str;
 use text_words::{WordFault, around_first, byte, small_number, text};
-use trace_history::Parent;
+use trace_run::Parent;
 
 /// Reads the parent of a span that starts: `root`, the number of a span, or `remote:` or `local:`
 /// with a context after it.

@@ -5,7 +5,7 @@ ghost use Rattle.otlp_value.specs.Value.{attribute_view};
 ghost use Rattle.otlp_span.specs.Parts.{limits_view};
 ghost use Rattle.batch_desk.specs.Views.{config_view};
 ghost use Rattle.retry_core.specs.Retries.{outcome_view};
-ghost use Rattle.trace_history.specs.Steps.{step_view};
+ghost use Rattle.trace_run.specs.Steps.{step_view};
 ghost use Rattle.span_script.specs.Lines.{line_view, words, sampler, limits, desk, max_body};
 ghost use Rattle.span_script.specs.Lines.{resource, scope, scope_attribute, outcome, step};
 ghost use Rattle.span_script.specs.Scripts.{Script};
@@ -21,7 +21,7 @@ use otlp_value::{AttributeList, Value};
 use retry_core::Outcome;
 use std::alloc::Allocator;
 use text_words::WordFault;
-use trace_history::Step;
+use trace_run::Step;
 
 /// What the lines so far say.
 #[derive(Drop)]

@@ -23,7 +23,7 @@ use span_ring::MAX_QUEUE;
 use std::alloc::Allocator;
 use std::str;
 use text_words::{WordFault, generator_words, number, parts_of, small_number, text};
-use trace_history::Step;
+use trace_run::Step;
 
 /// What a line says.
 #[derive(Debug, Drop)]

@@ -17,7 +17,7 @@ use retry_core::Outcome;
 use std::alloc::{Allocator, Global};
 use text_words::{WordFault, parts_of};
 use thiserror::Error;
-use trace_history::Step;
+use trace_run::Step;
 
 /// What to do, as a text says it.
 #[derive(Debug, Drop)]

@@ -1,7 +1,7 @@
 //! The steps of a program.
 
 ghost use Rattle.std.specs.Prelude.{◌≡◌, map, ok_or};
-ghost use Rattle.trace_history.specs.Steps.{step_view};
+ghost use Rattle.trace_run.specs.Steps.{step_view};
 ghost use Rattle.text_words.specs.Words.{Gives};
 ghost use Rattle.span_script.specs.Steps.{attempt_step, bare_step, call_step, call_step_of};
 ghost use Rattle.span_script.specs.Steps.{end_step, end_step_of, kind_of, reply_step};
@@ -14,7 +14,7 @@ use crate::context::parse_parent;
 use otlp_span::{Kind, SpanCall};
 use std::alloc::Allocator;
 use text_words::{WordFault, number, small_number, text};
-use trace_history::Step;
+use trace_run::Step;
 
 /// Reads a step of this name, and the words after it.
 #[tactic(auto, unfolding(crate::specs::Steps::step_of))]

@@ -43,8 +43,8 @@ use Rattle.batch_sending.specs.Sendings.{is_sent_at}
 use Rattle.batch_sending.specs.Answers.{MayBeSentAt, Attempts}
 use Rattle.batch_sending.specs.declared.answers.Attempted.{Attempted}
 use Rattle.batch_sending.specs.declared.answers.Attempted.TheVariants as attempted
-use Rattle.trace_history.specs.Answers.{answer_view}
-use Rattle.trace_history.specs.declared.answer.Answer.{Answer as CodeAnswer}
+use Rattle.trace_run.specs.Answers.{answer_view}
+use Rattle.trace_run.specs.declared.answer.Answer.{Answer as CodeAnswer}
 use Rattle.span_exporter.specs.Handed.{Handed}
 use Rattle.trace_run.specs.Table.{IsTable, TableWith}
 use Rattle.trace_run.specs.Out.{Out, progress_at, progress_of, progress_in, attempts_of, is_sent}

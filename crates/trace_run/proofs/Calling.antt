@@ -10,8 +10,8 @@ use Rattle.model_run.specs.History.{SpanStep, Setup, calls_on}
 use Rattle.model_run.specs.Runs.{Answered, is_refused, span_steps}
 use Rattle.model_run.specs.Answers.{RunConfig}
 use Rattle.model_run.specs.Headline.{attempt_by}
-use Rattle.trace_history.specs.Answers.{answer_view}
-use Rattle.trace_history.specs.declared.answer.Answer.{Answer as CodeAnswer}
+use Rattle.trace_run.specs.Answers.{answer_view}
+use Rattle.trace_run.specs.declared.answer.Answer.{Answer as CodeAnswer}
 use Rattle.trace_run.specs.Table.{IsTable, TableWith, TakesStep, answer_to_call, span_numbered}
 use Rattle.trace_run.specs.Ends.{EndsAs}
 use Rattle.trace_run.specs.Queue.{Admits}

@@ -33,9 +33,9 @@ use Rattle.batch_desk.specs.declared.admitted.Admitted.{Admitted}
 use Rattle.batch_desk.specs.declared.admitted.Admitted.TheVariants as admitted
 use Rattle.trace_api.specs.declared.pass.Ended.{Ended}
 use Rattle.trace_api.specs.declared.pass.Ended.TheVariants as ends
-use Rattle.trace_history.specs.Answers.{answer_view}
-use Rattle.trace_history.specs.declared.answer.Answer.{Answer as CodeAnswer}
-use Rattle.trace_history.specs.declared.answer.Answer.TheVariants as answers
+use Rattle.trace_run.specs.Answers.{answer_view}
+use Rattle.trace_run.specs.declared.answer.Answer.{Answer as CodeAnswer}
+use Rattle.trace_run.specs.declared.answer.Answer.TheVariants as answers
 use Rattle.trace_run.specs.Table.{TableWith, TakesStep, span_numbered}
 use Rattle.trace_run.specs.Ends.{EndsAs, EndsBy, AnswersAlone}
 use Rattle.trace_run.specs.Queue.{Admits, ended_as}

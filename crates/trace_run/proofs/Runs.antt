@@ -16,10 +16,10 @@ use Rattle.model_run.specs.Headline.{Attempt, attempt_by, attempts}
 use Rattle.model_run.specs.Laws.{OfRuns, IsAllowed}
 use Rattle.span_exporter.specs.Handed.{Handed}
 use Rattle.trace_run.specs.Table.{IsTable, TableWith}
-use Rattle.trace_history.specs.Answers.{answer_view, history_view}
-use Rattle.trace_history.specs.Steps.{step_view}
-use Rattle.trace_history.specs.declared.answer.Answer.{Answer as CodeAnswer}
-use Rattle.trace_history.specs.declared.step.Step.{Step as CodeStep}
+use Rattle.trace_run.specs.Answers.{answer_view, history_view}
+use Rattle.trace_run.specs.Steps.{step_view}
+use Rattle.trace_run.specs.declared.answer.Answer.{Answer as CodeAnswer}
+use Rattle.trace_run.specs.declared.step.Step.{Step as CodeStep}
 use Rattle.trace_run.specs.Out.{Out}
 use Rattle.trace_run.specs.State.{Stands, TellsAll}
 use Rattle.trace_run.specs.Headline.{told_attempt}

@@ -29,9 +29,9 @@ use Rattle.otlp_span.specs.declared.parts.SpanCall.TheVariants as calls
 use Rattle.trace_api.specs.Calls.{Asks}
 use Rattle.trace_api.specs.Starts.{tracer_view}
 use Rattle.trace_api.specs.declared.pass.Ended.{Ended}
-use Rattle.trace_history.specs.Answers.{answer_view}
-use Rattle.trace_history.specs.declared.answer.Answer.{Answer}
-use Rattle.trace_history.specs.declared.answer.Answer.TheVariants as answers
+use Rattle.trace_run.specs.Answers.{answer_view}
+use Rattle.trace_run.specs.declared.answer.Answer.{Answer}
+use Rattle.trace_run.specs.declared.answer.Answer.TheVariants as answers
 use Rattle.trace_run.specs.Table.{IsTable, TableWith, answer_to_call, calls_so_far, span_after}
 use Rattle.trace_run.specs.Table.{span_numbered}
 use Rattle.trace_run.specs.Ends.{EndsAs, EndsBy}

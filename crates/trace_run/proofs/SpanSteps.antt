@@ -30,9 +30,9 @@ use Rattle.trace_api.specs.Starts.{ProviderWith, StartTakesMemory, StartsAs, Tra
 use Rattle.trace_api.specs.Starts.{tracer_view}
 use Rattle.trace_api.specs.declared.provider.StartFault.{StartFault}
 use Rattle.trace_api.specs.declared.provider.StartFault.TheVariants as faults
-use Rattle.trace_history.specs.Answers.{answer_view}
-use Rattle.trace_history.specs.declared.answer.Answer.{Answer}
-use Rattle.trace_history.specs.declared.answer.Answer.TheVariants as answers
+use Rattle.trace_run.specs.Answers.{answer_view}
+use Rattle.trace_run.specs.declared.answer.Answer.{Answer}
+use Rattle.trace_run.specs.declared.answer.Answer.TheVariants as answers
 use Rattle.trace_run.specs.Table.{IsTable, TableWith, context_in, parent_in, span_after}
 use Rattle.trace_run.specs.Table.{model_tracers, tracers_of}
 use Rattle.trace_run.specs.Opens.{ComesTo, Opens, OpensAs}

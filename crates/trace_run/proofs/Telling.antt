@@ -23,9 +23,9 @@ use Rattle.batch_sending.specs.Sendings.{Sending}
 use Rattle.batch_sending.specs.Answers.{Attempts}
 use Rattle.batch_sending.specs.declared.answers.Attempted.{Attempted}
 use Rattle.batch_sending.specs.declared.answers.Attempted.TheVariants as attempted
-use Rattle.trace_history.specs.Answers.{answer_view}
-use Rattle.trace_history.specs.declared.answer.Answer.{Answer as CodeAnswer}
-use Rattle.trace_history.specs.declared.answer.Answer.TheVariants as answers
+use Rattle.trace_run.specs.Answers.{answer_view}
+use Rattle.trace_run.specs.declared.answer.Answer.{Answer as CodeAnswer}
+use Rattle.trace_run.specs.declared.answer.Answer.TheVariants as answers
 use Rattle.span_exporter.specs.Handed.{Handed, handing}
 use Rattle.trace_run.specs.Table.{TableWith}
 use Rattle.trace_run.specs.Ends.{EndsAs, EndsBy}

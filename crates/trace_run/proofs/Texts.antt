@@ -1,10 +1,10 @@
 -- The lines that are written of a run, with the steps that are left to write.
 use Rattle.std.proofs.Common.{◌≡◌, sym, ap, ◌∙◌, ℕ, ◌+◌, ◌-◌, ◌^◌, ◌<◌, arith, List, [], ◌∷◌, ◌++◌}
 use Rattle.std.proofs.Common.{length, length-append, append_assoc, append-nil, ◌⊎◌, inl, inr}
-use Rattle.trace_history.specs.Answers.{answer_view, history_view}
-use Rattle.trace_history.specs.Steps.{step_view}
-use Rattle.trace_history.specs.declared.answer.Answer.{Answer}
-use Rattle.trace_history.specs.declared.step.Step.{Step}
+use Rattle.trace_run.specs.Answers.{answer_view, history_view}
+use Rattle.trace_run.specs.Steps.{step_view}
+use Rattle.trace_run.specs.declared.answer.Answer.{Answer}
+use Rattle.trace_run.specs.declared.step.Step.{Step}
 use Rattle.model_run.specs.Runs.{Answered}
 use Rattle.span_exporter.specs.Handed.{Handed}
 use Rattle.trace_run.specs.Lines.{line_of, lines_after, answers_text}

@@ -6,8 +6,8 @@ use Rattle.model_run.specs.Answers.{has_text}
 use Rattle.trace_api.specs.Calls.{Asks, IsRecordingWith, Says, goes_to_pass}
 use Rattle.trace_api.specs.declared.pass.Ended.{Ended}
 use Rattle.trace_api.specs.declared.pass.Ended.TheVariants as ends
-use Rattle.trace_history.specs.declared.answer.Answer.{Answer}
-use Rattle.trace_history.specs.declared.answer.Answer.TheVariants as answers
+use Rattle.trace_run.specs.declared.answer.Answer.{Answer}
+use Rattle.trace_run.specs.declared.answer.Answer.TheVariants as answers
 
 -- A call that is no end was made, or there was no room for what it takes and nothing changed.
 abbrev pub MadeAs : Call → HeldSpan → HeldSpan → Answer → Type 0

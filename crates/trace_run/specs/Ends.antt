@@ -8,8 +8,8 @@ use Rattle.model_span.specs.Starts.{StartedSpan, exported_span}
 use Rattle.trace_api.specs.Pass.{is_admission}
 use Rattle.trace_api.specs.declared.pass.Ended.{Ended}
 use Rattle.trace_api.specs.declared.pass.Ended.TheVariants as ends
-use Rattle.trace_history.specs.declared.answer.Answer.{Answer}
-use Rattle.trace_history.specs.declared.answer.Answer.TheVariants as answers
+use Rattle.trace_run.specs.declared.answer.Answer.{Answer}
+use Rattle.trace_run.specs.declared.answer.Answer.TheVariants as answers
 
 -- this is the answer, and no pass was asked
 pub record AnswersAlone {P : Type 0} (said : Answer) (old : P) (answer : Answer) (new : P)

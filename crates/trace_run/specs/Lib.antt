@@ -1,3 +1,5 @@
+pub mod Steps
+pub mod Answers
 pub mod Queue
 pub mod Out
 pub mod Report

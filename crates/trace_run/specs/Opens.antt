@@ -11,8 +11,8 @@ use Rattle.model_run.specs.History.{SpanStep, Setup, StartResult, start_result, 
 use Rattle.model_run.specs.History.{parent_among}
 use Rattle.model_run.specs.Answers.{takes_memory}
 use Rattle.otlp_ids.specs.WordStream.{words_of}
-use Rattle.trace_history.specs.declared.answer.Answer.{Answer}
-use Rattle.trace_history.specs.declared.answer.Answer.TheVariants as answers
+use Rattle.trace_run.specs.declared.answer.Answer.{Answer}
+use Rattle.trace_run.specs.declared.answer.Answer.TheVariants as answers
 use Rattle.trace_run.specs.Table.{IsTable, TableWith}
 
 -- the span, or why there is none, where its scope and its parent are there or not

@@ -20,8 +20,8 @@ use Rattle.batch_sending.specs.Sendings.{attempts_at, is_sent_at}
 use Rattle.batch_sending.specs.Answers.{Attempts, IsAgain, IsOver}
 use Rattle.batch_sending.specs.declared.answers.Attempted.{Attempted}
 use Rattle.batch_sending.specs.declared.answers.Attempted.TheVariants as attempted
-use Rattle.trace_history.specs.declared.answer.Answer.{Answer}
-use Rattle.trace_history.specs.declared.answer.Answer.TheVariants as answers
+use Rattle.trace_run.specs.declared.answer.Answer.{Answer}
+use Rattle.trace_run.specs.declared.answer.Answer.TheVariants as answers
 use Rattle.model_run.specs.Answers as model
 use Rattle.model_run.specs.Headline as headline
 

@@ -8,9 +8,9 @@ use Rattle.rand_core.specs.Stream.{Stream}
 use Rattle.model_span.specs.Sampling.{SamplerMeaning}
 use Rattle.model_run.specs.Runs.{Answered}
 use Rattle.model_run.specs.Answers as model
-use Rattle.trace_history.specs.Answers.{history_view}
-use Rattle.trace_history.specs.declared.answer.Answer.{Answer}
-use Rattle.trace_history.specs.declared.step.Step.{Step}
+use Rattle.trace_run.specs.Answers.{history_view}
+use Rattle.trace_run.specs.declared.answer.Answer.{Answer}
+use Rattle.trace_run.specs.declared.step.Step.{Step}
 use Rattle.trace_run.specs.declared.config.RunConfig.{RunConfig}
 use Rattle.trace_run.specs.Run.{run_config}
 use Rattle.trace_run.specs.Out.{Out, is_sent}

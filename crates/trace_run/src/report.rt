@@ -2,13 +2,13 @@
 ghost use Rattle.std.specs.Prelude.{◌≡◌, option_map};
 ghost use Rattle.trace_run.specs.Report.{after_close};
 
+use crate::Answer;
 use crate::sending::BatchExport;
 use batch_desk::{Batch, Desk};
 use otlp_span::Reason;
 use retry_core::Fate;
 use std::alloc::{Allocator, Global};
 use std::marker::Model;
-use trace_history::Answer;
 
 /// What a run leaves: its answers, its queue with the ledger, and the batch that is out, if one is.
 /// It isn't dropped: `close` ends that batch.

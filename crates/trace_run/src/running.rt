@@ -2,20 +2,19 @@
 ghost use Rattle.std.specs.Prelude.{◌≡◌, ◌+◌, ◌-◌, ◌^◌, ◌<◌, List, ◌∷◌, ◌++◌, [], length};
 ghost use Rattle.model_run.specs.Answers as model;
 ghost use Rattle.model_run.specs.Runs.{Answered};
-ghost use Rattle.trace_history.specs.Answers.{answer_view};
-ghost use Rattle.trace_history.specs.Steps.{step_view};
+ghost use Rattle.trace_run.specs.Answers.{answer_view};
+ghost use Rattle.trace_run.specs.Steps.{step_view};
 ghost use Rattle.trace_run.specs.Out.{IsReady, IsTied};
 ghost use Rattle.trace_run.specs.State.{GoesOn, HasItsBody, Stands, Tells};
 
-use crate::SpanTable;
 use crate::queue::SpanQueue;
 use crate::sending::{BatchExport, encode_batch, judge_batch, send_batch, take_batch};
+use crate::{Answer, SpanTable, Step};
 use otlp_sampler::Sampler;
 use rand_core::Rng;
 use retry_core::RetryConfig;
 use span_exporter::Exporter;
 use std::alloc::Allocator;
-use trace_history::{Answer, Step};
 
 /// The spans and the queue of a run.
 #[derive(Drop)]

@@ -1,17 +1,17 @@
 //! The batch that is out: it is taken, encoded, sent, and judged by its outcome.
 ghost use Rattle.std.specs.Prelude.{◌≡◌, ℕ};
 ghost use Rattle.model_run.specs.Answers.{take_answer};
-ghost use Rattle.trace_history.specs.Answers.{answer_view};
+ghost use Rattle.trace_run.specs.Answers.{answer_view};
 ghost use Rattle.trace_run.specs.Out.{Encodes, IsReady, IsTied, Replies, Sends, Takes};
 ghost use Rattle.trace_run.specs.Out.{attempt_said, is_sent};
 
+use crate::Answer;
 use batch_desk::{Batch, Desk};
 use batch_sending::{Attempted, Judged, Sending};
 use retry_core::{Next, RetryConfig};
 use span_exporter::Exporter;
 use std::alloc::Allocator;
 use std::marker::Model;
-use trace_history::Answer;
 
 /// A batch that is out: it is to be encoded, or it is on its way to the exporter.
 #[derive_where(Debug)]

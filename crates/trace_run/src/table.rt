@@ -11,8 +11,8 @@ ghost use Rattle.model_run.specs.Runs.{is_refused};
 ghost use Rattle.otlp_ids.specs.SpanContext.{parent_view};
 ghost use Rattle.otlp_ids.specs.WordStream.{words_of};
 ghost use Rattle.otlp_span.specs.Parts.{call_view, kind_view, scope_view};
-ghost use Rattle.trace_history.specs.Answers.{answer_view};
-ghost use Rattle.trace_history.specs.Steps.{parent_name_view};
+ghost use Rattle.trace_run.specs.Answers.{answer_view};
+ghost use Rattle.trace_run.specs.Steps.{parent_name_view};
 ghost use Rattle.trace_run.specs.Table.{IsTable, TakesStep, answer_to_call, answer_to_start};
 ghost use Rattle.trace_run.specs.Table.{calls_so_far, parent_in, setup_with, span_numbered};
 ghost use Rattle.trace_run.specs.Table.{tracers_of};
@@ -20,6 +20,7 @@ ghost use Rattle.trace_run.specs.Calls.{CallsAmong, EndsSpan, MadeAs};
 ghost use Rattle.trace_run.specs.Ends.{EndsAs};
 ghost use Rattle.trace_run.specs.Opens.{Opens};
 
+use crate::{Answer, Parent};
 use otlp_ids::{OutOfMemory, SpanContext};
 use otlp_sampler::Sampler;
 use otlp_span::{Kind, Scope, SpanCall, SpanData};
@@ -29,7 +30,6 @@ use std::fmt;
 use std::marker::Model;
 use std::sync::Arc;
 use trace_api::{EndPass, Provider, Span, StartFault, Tracer};
-use trace_history::{Answer, Parent};
 
 /// The spans that a program has started, numbered from 0 on by its starts, those too that give no
 /// span (Trace API, "Span Creation", "Span operations"). It takes the steps that are for spans, and

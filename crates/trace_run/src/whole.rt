@@ -4,7 +4,7 @@ ghost use Rattle.model_desk.specs.Waits.{IsRetryConfig};
 ghost use Rattle.span_ring.specs.SpanRing.{IsRingSize};
 ghost use Rattle.model_run.specs.Answers.{AreAnswers, desk_after};
 ghost use Rattle.model_run.specs.Headline.{pending_after};
-ghost use Rattle.trace_history.specs.Answers.{history_view};
+ghost use Rattle.trace_run.specs.Answers.{history_view};
 ghost use Rattle.trace_run.specs.Out.{shown};
 ghost use Rattle.model_run.specs.Laws.{LateAfterShutdown, DroppedWhereFull, QueuedWhereRoom};
 ghost use Rattle.model_run.specs.Laws.{TakenWhereDue, TakesTheFirst, TakenAfterShutdown};
@@ -16,12 +16,12 @@ ghost use Rattle.trace_run.specs.Report.{OfRun};
 ghost use Rattle.trace_run.specs.Run.{run_config};
 ghost use Rattle.trace_run.specs.Headline.{AreCanonical, Headline};
 
-use crate::SpanTable;
 use crate::config::RunConfig;
 use crate::queue::SpanQueue;
 use crate::report::RunReport;
 use crate::running::Running;
 use crate::sending::BatchExport;
+use crate::{SpanTable, Step};
 use batch_desk::Desk;
 use model_run::{
     attempts_are_answered, batches_are_slices, encodings_are_answered, ends_are_answered,
@@ -35,7 +35,6 @@ use span_exporter::Exporter;
 use std::alloc::Allocator;
 use std::sync::Arc;
 use trace_api::Provider;
-use trace_history::Step;
 
 /// Takes the steps of a program in order, over a queue that is made at moment 0, and hands the
 /// batches to the exporter (Trace API; Trace SDK, "Batching processor"). Each step has an answer.

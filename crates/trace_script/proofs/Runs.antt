@@ -6,10 +6,10 @@ use Rattle.model_run.specs.Answers.{RunConfig, AreAnswers, desk_after}
 use Rattle.model_run.specs.Runs.{Answered}
 use Rattle.model_desk.specs.Desks.{Desk}
 use Rattle.span_exporter.specs.Handed.{Handed}
-use Rattle.trace_history.specs.Answers.{history_view}
-use Rattle.trace_history.specs.Steps.{step_view}
-use Rattle.trace_history.specs.declared.answer.Answer.{Answer}
-use Rattle.trace_history.specs.declared.step.Step.{Step as CodeStep}
+use Rattle.trace_run.specs.Answers.{history_view}
+use Rattle.trace_run.specs.Steps.{step_view}
+use Rattle.trace_run.specs.declared.answer.Answer.{Answer}
+use Rattle.trace_run.specs.declared.step.Step.{Step as CodeStep}
 use Rattle.trace_run.specs.Headline.{Headline}
 use Rattle.retry_core.specs.Retries.{default_retry}
 use Rattle.span_script.specs.Scripts.{Script}

@@ -33,9 +33,9 @@ use Rattle.trace_run.specs.Table.{TableWith, TakesStep, IsTable, span_numbered, 
 use Rattle.trace_run.specs.Ends.{EndsAs, EndsBy}
 use Rattle.trace_api.specs.Pass.{Body, Admits, counted_spans, with_span}
 use Rattle.trace_api.specs.declared.pass.Ended.{Ended as CodeEnded}
-use Rattle.trace_history.specs.Steps.{step_view}
-use Rattle.trace_history.specs.Answers.{answer_view}
-use Rattle.trace_history.specs.declared.answer.Answer.{Answer as CodeAnswer}
+use Rattle.trace_run.specs.Steps.{step_view}
+use Rattle.trace_run.specs.Answers.{answer_view}
+use Rattle.trace_run.specs.declared.answer.Answer.{Answer as CodeAnswer}
 use Rattle.trace_api.specs.Words.{next, stream}
 use Rattle.trace_script.specs.Recorded.{words_of_list, spans_of}
 use Rattle.trace_script.specs.declared.sampler.ScriptSampler.{ScriptSampler}

@@ -3,8 +3,8 @@ ghost use Rattle.std.specs.Prelude.{◌≡◌, ◌+◌, ◌≤◌, ◌∷◌, []
 ghost use Rattle.model_run.specs.History.{ended_spans, granted_steps};
 ghost use Rattle.model_run.specs.Steps.{is_shutdown as closes};
 ghost use Rattle.model_run.specs.Runs.{is_refused};
-ghost use Rattle.trace_history.specs.Answers.{answer_view};
-ghost use Rattle.trace_history.specs.Steps.{step_view};
+ghost use Rattle.trace_run.specs.Answers.{answer_view};
+ghost use Rattle.trace_run.specs.Steps.{step_view};
 ghost use Rattle.trace_script.specs.Recorder.{Records, begins, granted, setup_view};
 ghost use Rattle.trace_script.specs.Recorder.{start_steps};
 
@@ -15,8 +15,7 @@ use span_script::Script;
 use std::alloc::Allocator;
 use std::sync::Arc;
 use trace_api::{BodyPass, Provider, WordsRng};
-use trace_history::{Answer, Step};
-use trace_run::SpanTable;
+use trace_run::{Answer, SpanTable, Step};
 
 /// The spans of a script.
 type ScriptSpans<'a, A> = SpanTable<'a, ScriptSampler, WordsRng<A>, A>;

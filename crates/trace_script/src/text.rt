@@ -2,7 +2,7 @@
 ghost use Rattle.std.specs.Prelude.{◌≡◌, IfOk, map, string_bytes};
 ghost use Rattle.span_ring.specs.SpanRing.{IsRingSize};
 ghost use Rattle.span_exporter.specs.Views.{handed_view};
-ghost use Rattle.trace_history.specs.Answers.{history_view};
+ghost use Rattle.trace_run.specs.Answers.{history_view};
 ghost use Rattle.span_script.specs.Parsed.{Means};
 ghost use Rattle.span_script.specs.Scripts.{Script as ScriptRead};
 ghost use Rattle.trace_script.specs.Printed.{IsRunText, queued_count, run_text as text_of};
@@ -17,8 +17,7 @@ use span_exporter::{Handed, MemoryExporter};
 use span_script::Script;
 use std::alloc::Allocator;
 use trace_api::WordsRng;
-use trace_history::Step;
-use trace_run::{RunConfig, RunReport, run, write_answers, write_report};
+use trace_run::{RunConfig, RunReport, Step, run, write_answers, write_report};
 
 /// Runs the steps of a script over an exporter with the script's outcomes. The text has a line for
 /// each step, and the report after them. Then the run is closed.

@@ -13,8 +13,7 @@ use std::alloc::{Allocator, Global};
 use std::fmt::Debug;
 use std::process::Abort;
 use trace_api::{Ended, WordsRng};
-use trace_history::{Answer, Parent, Step};
-use trace_run::{RunConfig, RunReport, run};
+use trace_run::{Answer, Parent, RunConfig, RunReport, Step, run};
 
 /// Each word of a trace's identifier.
 const ONES: u64 = 0x0101010101010101;

@@ -14,7 +14,7 @@ use std::alloc::Allocator;
 use std::process::Abort;
 use test_support::FailingAllocator;
 use trace_api::Ended;
-use trace_history::Answer;
+use trace_run::Answer;
 
 /// A program at whose end a span was handed, one is dropped, one is in a batch that is encoded, and
 /// one waits; with its answers where no memory is refused.

@@ -11,8 +11,7 @@ use retry_core::RetryConfig;
 use std::alloc::Allocator;
 use std::process::Abort;
 use trace_api::WordsRng;
-use trace_history::{Parent, Step};
-use trace_run::RunConfig;
+use trace_run::{Parent, RunConfig, Step};
 
 const MILLISECOND: u64 = 1_000_000;
 

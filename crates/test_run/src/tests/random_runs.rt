@@ -12,7 +12,7 @@ use std::alloc::{Allocator, Global};
 use std::process::Abort;
 use test_support::FailingAllocator;
 use trace_api::Ended;
-use trace_history::{Answer, Parent, Step};
+use trace_run::{Answer, Parent, Step};
 
 /// How many runs there are.
 const RUNS: u64 = 2_000;

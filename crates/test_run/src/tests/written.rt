@@ -5,8 +5,7 @@ use otlp_sampler::AlwaysOn;
 use otlp_span::{Kind, Resource, Scope, SpanLimits};
 use std::sync::Arc;
 use trace_api::Provider;
-use trace_history::{Answer, Parent};
-use trace_run::SpanTable;
+use trace_run::{Answer, Parent, SpanTable};
 
 #[test]
 fn what_a_run_begins_with_is_written(rt: HostRuntime) {

@@ -2,8 +2,8 @@
 ghost use Rattle.std.specs.Prelude.{◌≡◌, List, ◌++◌, OnOk, map, slice_get, string_bytes};
 ghost use Rattle.model_run.specs.Runs.{Answered};
 ghost use Rattle.span_exporter.specs.Views.{handed_view};
-ghost use Rattle.trace_history.specs.Answers.{answer_view, history_view};
-ghost use Rattle.trace_history.specs.Steps.{step_view};
+ghost use Rattle.trace_run.specs.Answers.{answer_view, history_view};
+ghost use Rattle.trace_run.specs.Steps.{step_view};
 ghost use Rattle.trace_run.specs.Lines.{answers_text, body_of, line_of};
 ghost use Rattle.trace_run.specs.Places.{IsAfter};
 
@@ -11,10 +11,10 @@ use crate::text::lines::{
     write_attempt, write_call, write_encode, write_end, write_reply, write_start, write_take,
 };
 use crate::text::place::Place;
+use crate::{Answer, Step};
 use otlp_ids::OutOfMemory;
 use span_exporter::Handed;
 use std::alloc::Allocator;
-use trace_history::{Answer, Step};
 
 /// Appends a line for each step of a run, with its answer (profile):
 ///

@@ -2,16 +2,16 @@
 ghost use Rattle.std.specs.Prelude.{◌≡◌, ◌∷◌, ◌++◌, OnOk, decimal, codes, string_bytes};
 ghost use Rattle.otlp_span.specs.Parts.{call_view};
 ghost use Rattle.retry_core.specs.Retries.{next_view};
-ghost use Rattle.trace_history.specs.Answers.{answer_view, ended_view};
+ghost use Rattle.trace_run.specs.Answers.{answer_view, ended_view};
 ghost use Rattle.trace_run.specs.Lines.{line, start_words, call_words, ended_words, end_words};
 ghost use Rattle.trace_run.specs.Lines.{take_words, encode_words, attempt_words, next_words};
 ghost use Rattle.trace_run.specs.Lines.{reply_words};
 
+use crate::Answer;
 use otlp_ids::OutOfMemory;
 use retry_core::{Cause, Next};
 use std::alloc::Allocator;
 use trace_api::Ended;
-use trace_history::Answer;
 
 /// Appends the line of the start with this number.
 pub(crate) fn write_start<A: Allocator>(

@@ -2,13 +2,13 @@
 ghost use Rattle.std.specs.Prelude.{◌≡◌, ◌-◌, ◌^◌, ◌<◌, List, ◌∷◌, ◌++◌, [], is_some};
 ghost use Rattle.model_run.specs.Headline.{attempt_by};
 ghost use Rattle.model_run.specs.Runs.{Answered};
-ghost use Rattle.trace_history.specs.Answers.{answer_view};
-ghost use Rattle.trace_history.specs.Steps.{step_view};
+ghost use Rattle.trace_run.specs.Answers.{answer_view};
+ghost use Rattle.trace_run.specs.Steps.{step_view};
 ghost use Rattle.trace_run.specs.Lines.{is_start as begins};
 ghost use Rattle.trace_run.specs.Places.{IsAfter};
 
+use crate::{Answer, Step};
 use std::alloc::Allocator;
-use trace_history::{Answer, Step};
 
 /// What the steps before the next one are for its line.
 #[derive(Clone, Copy)]

@@ -6,8 +6,8 @@ use Rattle.model_run.specs.Laws.{TakenWhereDue, TakesTheFirst, TakenAfterShutdow
 use Rattle.model_run.specs.Laws.{EncodedWhereItFits, DroppedUnencoded, AttemptsAreNumbered}
 use Rattle.model_run.specs.Laws.{AttemptsAreFew, AttemptsAreFiveAtMost, NoAttemptIsEarly}
 use Rattle.model_run.specs.Laws.{RepliesAreDecided}
-use Rattle.trace_history.specs.Answers.{answer_view, history_view}
-use Rattle.trace_history.specs.Steps.{step_view}
+use Rattle.trace_run.specs.Answers.{answer_view, history_view}
+use Rattle.trace_run.specs.Steps.{step_view}
 use Rattle.trace_run.specs.Run.{run_config}
 use Rattle.trace_run.proofs.Standing.{desk-is}
 use Rattle.trace_run.proofs.Bodies.{body-stays, headline, canonical}

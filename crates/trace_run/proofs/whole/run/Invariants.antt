@@ -1,6 +1,6 @@
 use Rattle.std.proofs.Common.{◌≡◌, length, take, vec_capacity}
 use Rattle.model_run.specs.Headline.{attempts}
-use Rattle.trace_history.specs.Answers.{history_view}
+use Rattle.trace_run.specs.Answers.{history_view}
 use Rattle.trace_run.specs.Out.{IsReady}
 use Rattle.trace_run.specs.Run.{run_config}
 use Rattle.trace_run.specs.State.{Stands, HasItsBody, TellsAll}

@@ -2,7 +2,7 @@ use Rattle.std.proofs.Common.{◌∙◌, rules, tests}
 use Rattle.std.proofs.lemmas.Iterator.{YieldsList-from_slice}
 use Rattle.std.proofs.lemmas.Iterator.Consumers.{YieldsList-at, YieldsList-from_filter}
 use Rattle.std.proofs.lemmas.Iterator.Consumers.{count_from_yields_List}
-use Rattle.trace_history.specs.Steps.{step_view}
+use Rattle.trace_run.specs.Steps.{step_view}
 use Rattle.trace_script.specs.Recorder.{begins}
 use Rattle.trace_script.proofs.Steps.{starts-among}
 use Rattle.trace_script.proofs.recorder.count_starts.Goals as goal

@@ -1,6 +1,6 @@
 use Rattle.std.proofs.Common.{◌<◌, ◌^◌, refl, ap, ◌∙◌, arith, [], map}
 use Rattle.std.proofs.lemmas.List.{length-map}
-use Rattle.trace_history.specs.Steps.{step_view}
+use Rattle.trace_run.specs.Steps.{step_view}
 use Rattle.trace_script.specs.Recorder.{setup_view, start_steps}
 use Rattle.trace_script.proofs.Steps.{begun, starts-few, words-are}
 use Rattle.trace_script.proofs.recorder.spans_of_script.Goals as goal

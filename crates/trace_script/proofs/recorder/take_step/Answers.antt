@@ -1,7 +1,7 @@
 use Rattle.std.proofs.Common.{string_bytes}
 use Rattle.otlp_span.specs.Parts.{call_view, kind_view}
-use Rattle.trace_history.specs.Steps.{parent_name_view}
-use Rattle.trace_history.specs.Answers.{answer_view}
+use Rattle.trace_run.specs.Steps.{parent_name_view}
+use Rattle.trace_run.specs.Answers.{answer_view}
 use Rattle.trace_script.proofs.Read.{on-ok}
 use Rattle.trace_script.proofs.Steps.{called, started}
 use Rattle.trace_script.proofs.recorder.take_step.Goals as goal

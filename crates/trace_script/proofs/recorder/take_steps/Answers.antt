@@ -2,7 +2,7 @@ use Rattle.std.proofs.Common.{◌≡◌, refl, sym, ap, ◌∙◌, arith, ◌∷
 use Rattle.std.proofs.Common.{drop, map}
 use Rattle.std.proofs.lemmas.List.{append-nil}
 use Rattle.model_run.specs.History.{granted_steps}
-use Rattle.trace_history.specs.Steps.{step_view}
+use Rattle.trace_run.specs.Steps.{step_view}
 use Rattle.trace_script.specs.Recorder.{granted, start_steps}
 use Rattle.trace_script.proofs.Steps.{granted-cons, granted-shut, idle, next-item, none-left}
 use Rattle.trace_script.proofs.Steps.{records-more, starts-cons}

@@ -1,6 +1,6 @@
 use Rattle.std.proofs.Common.{◌≡◌, ◌+◌, ◌≤◌, ◌++◌, List, drop, length, map}
 use Rattle.model_run.specs.History.{SpanStep, granted_steps}
-use Rattle.trace_history.specs.Steps.{step_view}
+use Rattle.trace_run.specs.Steps.{step_view}
 use Rattle.trace_script.specs.Recorder.{Records, start_steps}
 use Rattle.trace_script.proofs.recorder.take_steps.Given as goal
 

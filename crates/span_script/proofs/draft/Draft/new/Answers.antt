@@ -1,6 +1,6 @@
 use Rattle.std.proofs.Common.{map, refl, ap}
 use Rattle.retry_core.specs.Retries.{outcome_view}
-use Rattle.trace_history.specs.Steps.{step_view}
+use Rattle.trace_run.specs.Steps.{step_view}
 use Rattle.span_script.specs.Drafts.{scope_draft_view}
 use Rattle.span_script.proofs.draft.Draft.new.Goals as goal
 

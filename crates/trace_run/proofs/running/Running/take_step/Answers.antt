@@ -1,8 +1,8 @@
 use Rattle.std.proofs.Common.{refl, string_bytes}
 use Rattle.model_run.specs.Runs.{span_steps}
 use Rattle.otlp_span.specs.Parts.{call_view, kind_view}
-use Rattle.trace_history.specs.Answers.{answer_view}
-use Rattle.trace_history.specs.Steps.{parent_name_view}
+use Rattle.trace_run.specs.Answers.{answer_view}
+use Rattle.trace_run.specs.Steps.{parent_name_view}
 use Rattle.trace_run.proofs.Standing.{start-on, start-tells}
 use Rattle.trace_run.proofs.Calling.{called, called-tells}
 use Rattle.trace_run.proofs.Batches.{flush-on, shutdown-on, take-on, encode-on, attempt-on}

@@ -3,7 +3,7 @@ use Rattle.std.proofs.lemmas.Bool.{ltb-false}
 use Rattle.std.proofs.lemmas.Option.{slice_get_past, slice_get_read}
 use Rattle.otlp_ids.specs.SpanContext.{parent_view}
 use Rattle.otlp_span.specs.Parts.{kind_view}
-use Rattle.trace_history.specs.Steps.{parent_name_view}
+use Rattle.trace_run.specs.Steps.{parent_name_view}
 use Rattle.trace_run.specs.Table.{parent_in}
 use Rattle.trace_run.proofs.SpanSteps.{opens-no-parent, opens-no-scope, opens-with, said_of}
 use Rattle.trace_run.proofs.table.SpanTable.open.Goals as goal

@@ -2,8 +2,8 @@ use Rattle.std.proofs.Common.{◌∙◌, ap, ◌∷◌, [], ◌++◌, false, Som
 use Rattle.model_run.specs.Runs.{is_refused}
 use Rattle.otlp_ids.specs.WordStream.{words_of}
 use Rattle.otlp_span.specs.Parts.{kind_view}
-use Rattle.trace_history.specs.Answers.{answer_view}
-use Rattle.trace_history.specs.Steps.{parent_name_view}
+use Rattle.trace_run.specs.Answers.{answer_view}
+use Rattle.trace_run.specs.Steps.{parent_name_view}
 use Rattle.trace_run.proofs.SpanSteps.{comes-none, comes-span, started-is}
 use Rattle.trace_run.proofs.table.SpanTable.start.Goals as goal
 

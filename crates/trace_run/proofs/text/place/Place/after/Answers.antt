@@ -1,6 +1,6 @@
 use Rattle.std.proofs.Common.{refl, ◌∙◌}
-use Rattle.trace_history.specs.Answers.{answer_view}
-use Rattle.trace_history.specs.Steps.{step_view}
+use Rattle.trace_run.specs.Answers.{answer_view}
+use Rattle.trace_run.specs.Steps.{step_view}
 use Rattle.trace_run.proofs.Places.{after-more, one-if}
 use Rattle.trace_run.proofs.text.place.Place.after.Goals as goal
 

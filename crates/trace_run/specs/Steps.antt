@@ -4,10 +4,10 @@ use Rattle.model_run.specs.Steps.{Parent, root, numbered, given, Step, start, ca
 use Rattle.model_run.specs.Steps.{take, encode, attempt, reply}
 use Rattle.otlp_ids.specs.SpanContext.{context_view}
 use Rattle.otlp_span.specs.Parts.{kind_view, call_view}
-use Rattle.trace_history.specs.declared.step.Parent.{Parent as CodeParent}
-use Rattle.trace_history.specs.declared.step.Parent.TheVariants as parents
-use Rattle.trace_history.specs.declared.step.Step.{Step as CodeStep}
-use Rattle.trace_history.specs.declared.step.Step.TheVariants as steps
+use Rattle.trace_run.specs.declared.step.Parent.{Parent as CodeParent}
+use Rattle.trace_run.specs.declared.step.Parent.TheVariants as parents
+use Rattle.trace_run.specs.declared.step.Step.{Step as CodeStep}
+use Rattle.trace_run.specs.declared.step.Step.TheVariants as steps
 
 abbrev pub parent_name_view : {A : Type 0} → CodeParent A → Parent
 parent_name_view parents.Root = root

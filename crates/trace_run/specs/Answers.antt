@@ -6,10 +6,10 @@ use Rattle.model_run.specs.Runs as model
 use Rattle.model_run.specs.Runs.{Answered}
 use Rattle.trace_api.specs.declared.pass.Ended.{Ended}
 use Rattle.trace_api.specs.declared.pass.Ended.TheVariants as ends
-use Rattle.trace_history.specs.Steps.{step_view}
-use Rattle.trace_history.specs.declared.answer.Answer.{Answer}
-use Rattle.trace_history.specs.declared.answer.Answer.TheVariants as answers
-use Rattle.trace_history.specs.declared.step.Step.{Step as CodeStep}
+use Rattle.trace_run.specs.Steps.{step_view}
+use Rattle.trace_run.specs.declared.answer.Answer.{Answer}
+use Rattle.trace_run.specs.declared.answer.Answer.TheVariants as answers
+use Rattle.trace_run.specs.declared.step.Step.{Step as CodeStep}
 
 abbrev pub ended_view : Ended → model.Ended
 ended_view (ends.Queued ticket) = model.queued ticket
