@@ -1,5 +1,5 @@
 //! Words of a text, read from bytes: numbers, hexadecimal digits, and texts (profile).
-//! `span_script` reads scripts by them, `otel_settings` the values of variables, and
+//! `trace_script` reads scripts by them, `otel_settings` the values of variables, and
 //! `trace_context` the parts of a field.
 //!
 //! A word is a slice of bytes that a separator ends. A function reads one word whole, and answers

@@ -1,3 +1,13 @@
+mod Pairs
+mod Contexts
+mod StepWords
+mod Lines
+mod Drafts
+mod Orders
+mod Together
+mod Loop
+mod Sizes
+mod Kept
 mod Output
 mod Read
 mod Runs

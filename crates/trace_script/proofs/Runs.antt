@@ -12,9 +12,9 @@ use Rattle.trace_run.specs.declared.answer.Answer.{Answer}
 use Rattle.trace_run.specs.declared.step.Step.{Step as CodeStep}
 use Rattle.trace_run.specs.Headline.{Headline}
 use Rattle.retry_core.specs.Retries.{default_retry}
-use Rattle.span_script.specs.Scripts.{Script}
-use Rattle.span_script.specs.Parsed.{Means}
-use Rattle.span_script.specs.declared.script.Script.{Script as CodeScript}
+use Rattle.trace_script.specs.Scripts.{Script}
+use Rattle.trace_script.specs.Parsed.{Means}
+use Rattle.trace_script.specs.declared.parse.Script.{Script as CodeScript}
 use Rattle.batch_desk.specs.Views.{config_view}
 use Rattle.trace_script.specs.Recorded.{run_of}
 use Rattle.trace_script.specs.Recorder.{setup_view}

@@ -25,9 +25,9 @@ use Rattle.model_run.specs.History.{ended_spans, exported_of, exported_if_sample
 use Rattle.model_run.specs.History.{with_tickets, granted_steps, span_step}
 use Rattle.model_run.proofs.Histories.{outcomes-many, ended-start, ended-no-more, ended-more}
 use Rattle.model_run.specs.Runs.{Answer, is_refused}
-use Rattle.span_script.specs.Scripts.{Script}
-use Rattle.span_script.specs.Parsed.{Means}
-use Rattle.span_script.specs.declared.script.Script.{Script as CodeScript}
+use Rattle.trace_script.specs.Scripts.{Script}
+use Rattle.trace_script.specs.Parsed.{Means}
+use Rattle.trace_script.specs.declared.parse.Script.{Script as CodeScript}
 use Rattle.otlp_ids.specs.WordStream.{after_words, words_of}
 use Rattle.trace_run.specs.Table.{TableWith, TakesStep, IsTable, span_numbered, calls_so_far}
 use Rattle.trace_run.specs.Ends.{EndsAs, EndsBy}

@@ -1,3 +1,12 @@
+pub mod Values
+pub mod Contexts
+pub mod Calls
+pub mod Steps
+pub mod Outcomes
+pub mod Lines
+pub mod Scripts
+pub mod Drafts
+pub mod Parsed
 pub mod Command
 pub mod Program
 pub mod Printed

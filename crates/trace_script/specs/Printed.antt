@@ -12,8 +12,8 @@ use Rattle.model_run.specs.Answers.{AreAnswers, desk_after}
 use Rattle.span_exporter.specs.Handed.{Handed}
 use Rattle.trace_run.specs.Headline.{Headline}
 use Rattle.trace_run.specs.Lines.{answers_text, report_text}
-use Rattle.span_script.specs.Scripts.{Script, script_read}
-use Rattle.span_script.specs.declared.script.ScriptError.TheVariants as scripts
+use Rattle.trace_script.specs.Scripts.{Script, script_read}
+use Rattle.trace_script.specs.declared.parse.ScriptError.TheVariants as scripts
 use Rattle.trace_script.specs.Recorded.{max_body_of, run_of, spans_of}
 use Rattle.trace_script.specs.declared.failure.Failure.{Failure}
 use Rattle.trace_script.specs.declared.failure.Failure.TheVariants as failures

@@ -1,6 +1,6 @@
 -- What the program answers.
 use Rattle.std.specs.Prelude.{ℕ}
-use Rattle.span_script.specs.declared.script.ScriptError.TheVariants as scripts
+use Rattle.trace_script.specs.declared.parse.ScriptError.TheVariants as scripts
 use Rattle.otlp_proto.specs.declared.encoder.EncodeFault.{EncodeFault}
 use Rattle.otlp_proto.specs.declared.encoder.EncodeFault.TheVariants as faults
 use Rattle.trace_script.specs.declared.failure.Failure.{Failure}

@@ -9,10 +9,10 @@ use Rattle.model_run.specs.History.{Setup, ended_spans, granted_steps}
 use Rattle.retry_core.specs.Retries.{default_retry}
 use Rattle.model_run.specs.Answers.{RunConfig}
 use Rattle.batch_desk.specs.Desk.{default_config}
-use Rattle.span_script.specs.Scripts.{Script, all_kept, kept_scope}
-use Rattle.span_script.specs.declared.sampler.SamplerName.{SamplerName}
-use Rattle.span_script.specs.declared.sampler.SamplerName.TheVariants.{AlwaysOn, AlwaysOff}
-use Rattle.span_script.specs.declared.sampler.SamplerName.TheVariants.{ParentBased}
+use Rattle.trace_script.specs.Scripts.{Script, all_kept, kept_scope}
+use Rattle.trace_script.specs.declared.sampler.SamplerName.{SamplerName}
+use Rattle.trace_script.specs.declared.sampler.SamplerName.TheVariants.{AlwaysOn, AlwaysOff}
+use Rattle.trace_script.specs.declared.sampler.SamplerName.TheVariants.{ParentBased}
 
 -- what a sampler of this name decides; one by the parent asks the sampler that is always on about
 -- roots (Trace SDK, Built-in samplers)

@@ -8,7 +8,7 @@ use Rattle.model_run.specs.Steps.{Step, start}
 use Rattle.model_run.specs.History.{SpanStep, Setup, ended_spans, span_step}
 use Rattle.otlp_value.specs.Value.{attributes_view}
 use Rattle.otlp_span.specs.Parts.{scope_view, limits_view}
-use Rattle.span_script.specs.declared.script.Script.{Script}
+use Rattle.trace_script.specs.declared.parse.Script.{Script}
 use Rattle.trace_run.specs.Table.{IsTable, TableWith}
 use Rattle.trace_api.specs.Pass.{Body}
 use Rattle.trace_api.specs.Words.{stream}

@@ -2,9 +2,9 @@
 ghost use Rattle.std.specs.Prelude.{◌≡◌, ◌⊎◌};
 ghost use Rattle.trace_script.specs.Program.{status_of};
 
+use crate::parse::ScriptError;
 use otlp_ids::OutOfMemory;
 use otlp_proto::EncodeFault;
-use span_script::ScriptError;
 use std::io::Write;
 use thiserror::Error;
 

@@ -3,19 +3,19 @@ ghost use Rattle.std.specs.Prelude.{◌≡◌, ◌≤◌, ◌⊎◌, ◌++◌, �
 ghost use Rattle.std.specs.Prelude.{IfOk, IfErr, IfSome, OnErr, OnOk, string_bytes};
 ghost use Rattle.std.specs.Io.KnownBytes.{Appends, IsAtEnd, Keeps};
 ghost use Rattle.hex.specs.Hex.{encode_lower};
-ghost use Rattle.span_script.specs.Parsed.{Means};
-ghost use Rattle.span_script.specs.Scripts.{Script as ScriptRead};
+ghost use Rattle.trace_script.specs.Parsed.{Means};
+ghost use Rattle.trace_script.specs.Scripts.{Script as ScriptRead};
 ghost use Rattle.trace_script.specs.Command.{AskForBody, AskForRun, AskForText, IsTaken};
 ghost use Rattle.trace_script.specs.Printed.{AppendsStart, Explains, IsBadAt, IsBodyLine};
 ghost use Rattle.trace_script.specs.Printed.{IsPrinted, Prints, PrintsStart};
 
 use crate::command::read_words;
 use crate::failure::{Failure, tell};
+use crate::parse::Script;
 use crate::recorder::spans_of_script;
 use crate::text::text_of_script;
 use otlp_ids::OutOfMemory;
 use otlp_proto::{DEFAULT_MAX_BODY, body_of};
-use span_script::Script;
 use std::alloc::{Allocator, Global};
 use std::io;
 use std::io::{ErrorKind, Read, Write};

@@ -8,10 +8,10 @@ ghost use Rattle.trace_run.specs.Steps.{step_view};
 ghost use Rattle.trace_script.specs.Recorder.{Records, begins, granted, setup_view};
 ghost use Rattle.trace_script.specs.Recorder.{start_steps};
 
+use crate::parse::Script;
 use crate::sampler::ScriptSampler;
 use otlp_ids::OutOfMemory;
 use otlp_span::Resource;
-use span_script::Script;
 use std::alloc::Allocator;
 use std::sync::Arc;
 use trace_api::{BodyPass, Provider, WordsRng};

@@ -2,8 +2,19 @@
 use otlp_ids::{SpanContext, TraceId};
 use otlp_sampler::{AlwaysOff, AlwaysOn, Decision, ParentBased, Sampler};
 use otlp_span::Kind;
-use span_script::SamplerName;
 use std::alloc::Allocator;
+
+/// The sampler of a script (OpenTelemetry Trace SDK, "Built-in samplers").
+#[derive(Debug, Clone, Copy, PartialEq, Eq)]
+pub enum SamplerName {
+    /// Each span is recorded and sampled.
+    AlwaysOn,
+    /// No span is recorded.
+    AlwaysOff,
+    /// A root is sampled, and any other span where its parent is: the standard's defaults over
+    /// `AlwaysOn`.
+    ParentBased,
+}
 
 /// The sampler of a script.
 #[derive(Debug, Clone, Copy, PartialEq, Eq)]

@@ -1,9 +1,0 @@
-pub mod Values
-pub mod Contexts
-pub mod Calls
-pub mod Steps
-pub mod Outcomes
-pub mod Lines
-pub mod Scripts
-pub mod Drafts
-pub mod Parsed
