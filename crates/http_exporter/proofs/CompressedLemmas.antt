@@ -4,7 +4,7 @@ use Rattle.std.proofs.Common.{Some}
 use Rattle.model_desk.specs.Retries.{Outcome}
 use Rattle.otlp_http.specs.declared.request.Coding.{Coding}
 use Rattle.otlp_http.specs.declared.request.Coding.TheVariants.{Identity, Gzip}
-use Rattle.gzip_write.specs.Streams.{IsFile}
+use Rattle.gzip.specs.Streams.{IsFile}
 use Rattle.http_exporter.specs.Compressed.{KeptFile, keeping, IsCompressedAttempt}
 use Rattle.http_exporter.specs.Compressed.{in_gzip}
 

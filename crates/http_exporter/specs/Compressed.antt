@@ -4,7 +4,7 @@ use Rattle.std.specs.Prelude.{◌≡◌, ℕ, Bool, true, false, List, Option, S
 use Rattle.model_desk.specs.Retries.{Outcome}
 use Rattle.otlp_http.specs.declared.request.Coding.{Coding}
 use Rattle.otlp_http.specs.declared.request.Coding.TheVariants.{Identity, Gzip}
-use Rattle.gzip_write.specs.Streams.{IsFile}
+use Rattle.gzip.specs.Streams.{IsFile}
 
 -- whether bodies in this coding are gzip files
 abbrev pub is_gzip : Coding → Bool

@@ -10,7 +10,7 @@ ghost use Rattle.http_exporter.specs.Compressed.{IsCompressedAttempt, is_gzip};
 use crate::failure::Failure;
 use crate::kept_file::{BodyFile, keep};
 use crate::reports::ReportsFailure;
-use gzip_write::Gzip;
+use gzip::Gzip;
 use otlp_http::Coding;
 use otlp_ids::OutOfMemory;
 use retry_core::Outcome;

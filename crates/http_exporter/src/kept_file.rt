@@ -1,10 +1,10 @@
 //! The last body with its gzip file.
 
 ghost use Rattle.std.specs.Prelude.{◌≡◌, ◌↔◌, ℕ, List, IsTrue, IfOk, false, None};
-ghost use Rattle.gzip_write.specs.Streams.{IsFile};
+ghost use Rattle.gzip.specs.Streams.{IsFile};
 ghost use Rattle.http_exporter.specs.Compressed.{keeping};
 
-use gzip_write::Gzip;
+use gzip::Gzip;
 use std::alloc::{AllocError, Allocator};
 use std::marker::Model;
 
@@ -16,7 +16,7 @@ pub(crate) struct BodyFile<A: Allocator> {
 }
 
 impl<A: Allocator> Model for BodyFile<A> {
-    ghost use Rattle.gzip_write.specs.Streams.{IsFile};
+    ghost use Rattle.gzip.specs.Streams.{IsFile};
     ghost use Rattle.http_exporter.specs.Compressed.{KeptFile};
 
     ghost Value = { KeptFile };

@@ -3,14 +3,14 @@
 ghost use Rattle.std.specs.Prelude.{◌≡◌, ◌+◌, ◌≤◌, [], Err, IfErr, IfOk, Ok};
 ghost use Rattle.std.specs.Prelude.{vec_capacity};
 ghost use Rattle.model_deflate.specs.Gzip.{gunzip};
-ghost use Rattle.gzip_read.specs.Reading.{fault_of, Means};
+ghost use Rattle.gzip.specs.Reading.{fault_of, Means};
 ghost use Rattle.otlp_json.specs.Bodies.{body_bytes};
 ghost use Rattle.post_body.specs.Contents.{IsNoText, IsPacked, IsUndecoded, coding_in};
 ghost use Rattle.post_body.specs.Contents.{content_of, content_or, decoded, denial_by_coding};
 ghost use Rattle.post_body.specs.Posts.{post_of};
 
 use bytes::Bytes;
-use gzip_read::{Gunzip, GunzipError, GzipFault};
+use gzip::{Gunzip, GunzipError, GzipFault};
 use http::Request;
 use http_connection::reply::{Denial, is_json};
 use otlp_json::{JsonError, read_body};

@@ -12,7 +12,7 @@ ghost use Rattle.spool.specs.Settled.{IsSettled, device_of, limit_of, segment_of
 use crate::SpoolError;
 use crate::records::{bodies_after, torn_count};
 use crate::state::{Segment, Spool};
-use gzip_read::CrcTable;
+use gzip::CrcTable;
 use spool_device::Device;
 use std::alloc::Global;
 

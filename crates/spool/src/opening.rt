@@ -9,7 +9,7 @@ ghost use Rattle.spool.specs.Surveys.{IsSurvey, IsSplit};
 use crate::SpoolError;
 use crate::records::{scan, torn_count};
 use crate::state::{Segment, Spool};
-use gzip_read::CrcTable;
+use gzip::CrcTable;
 use spool_device::Device;
 use std::alloc::Global;
 

@@ -10,7 +10,7 @@ ghost use Rattle.spool.specs.Records.{note_of, bodies, notes};
 ghost use Rattle.spool.specs.Spools.{greatest, IsOneTooLong};
 
 use crate::SpoolError;
-use gzip_read::CrcTable;
+use gzip::CrcTable;
 use std::alloc::{AllocError, Global};
 
 /// The first byte of a content that keeps a body.

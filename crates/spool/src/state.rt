@@ -9,7 +9,7 @@ ghost use Rattle.spool.specs.declared.state.Segment.{Segment};
 
 use crate::SpoolError;
 use crate::synced::{append_synced, create_synced};
-use gzip_read::CrcTable;
+use gzip::CrcTable;
 use spool_device::Device;
 use std::alloc::{AllocError, Global};
 

@@ -2,7 +2,7 @@
 //! they are read back.
 use crate::tests::equal::assert_equal;
 use crate::tests::files::{pattern, read};
-use gzip_write::Gzip;
+use gzip::Gzip;
 use std::alloc::{AllocError, Allocator};
 use test_support::FailingAllocator;
 
