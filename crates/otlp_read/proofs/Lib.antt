@@ -6,3 +6,4 @@ pub mod PairValues
 pub mod TripleSteps
 pub mod TableSteps
 pub mod FieldSteps
+pub mod MemorySteps

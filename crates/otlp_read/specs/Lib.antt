@@ -4,3 +4,4 @@ pub mod Resources
 pub mod Spans
 pub mod Requests
 pub mod Triples
+pub mod Memory

@@ -12,9 +12,8 @@ use Rattle.model_message.specs.Wire.{Payload, varint, i64, len, i32, Field, fiel
 use Rattle.model_message.specs.Wire.{row_after, row}
 use Rattle.model_message.specs.Spelling.{IsEnded, IsPayload, IsField}
 use Rattle.model_message.proofs.Fields.{takes-field}
-use Rattle.trace_store.specs.Memory.{contents, content_of, content_size, payload_size, field_size}
-use Rattle.trace_store.specs.Memory.{message_size, request_size}
-use Rattle.trace_store.specs.Sizes.{at_most_64_bits}
+use Rattle.otlp_read.specs.Memory.{contents, content_of, content_size, payload_size, field_size}
+use Rattle.otlp_read.specs.Memory.{at_most_64_bits, message_size, request_size}
 
 -- ---- how many bytes the fields of a row take at least
 

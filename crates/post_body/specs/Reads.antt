@@ -9,8 +9,7 @@ use Rattle.otlp_wire.specs.declared.fault.ReadFault.TheVariants.{BadUtf8, OutOfM
 use Rattle.otlp_wire.specs.declared.fault.ReadFault.TheVariants.{Wire}
 use Rattle.post_body.specs.declared.reading.Unread.{Unread}
 use Rattle.post_body.specs.declared.reading.Unread.TheVariants as reasons
-use Rattle.trace_store.specs.Memory.{request_size}
-use Rattle.trace_store.specs.Sizes.{at_most_64_bits}
+use Rattle.otlp_read.specs.Memory.{at_most_64_bits, request_size}
 
 -- how many bytes of memory the reading of a content takes, at most what 64 bits hold
 abbrev pub size_of_content : List ℕ → ℕ

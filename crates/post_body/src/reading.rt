@@ -7,9 +7,8 @@ ghost use Rattle.model_message.specs.Tables;
 ghost use Rattle.otlp_read.specs.Requests.{request_view};
 ghost use Rattle.post_body.specs.Reads.{IsUnread, is_above, size_of_content, unread_by};
 
-use otlp_read::{ReadFault, Request, read_request};
+use otlp_read::{ReadFault, Request, read_request, request_size};
 use std::alloc::Allocator;
-use trace_store::request_size;
 
 /// Why a body isn't read.
 #[derive(Clone, Copy, Debug, PartialEq, Eq)]

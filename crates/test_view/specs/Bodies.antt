@@ -1,7 +1,7 @@
 -- What bodies take, computed.
 use Rattle.std.specs.Prelude.{ℕ, List}
 use Rattle.model_message.specs.Wire.{row, septets}
-use Rattle.trace_store.specs.Memory.{message_size, request_size}
+use Rattle.otlp_read.specs.Memory.{message_size, request_size}
 
 -- how many bytes the reading of a request takes
 unfoldable pub size_of : List ℕ → ℕ

@@ -11,4 +11,3 @@ pub mod Placing
 pub mod Yielded
 pub mod Services
 pub mod SpanDigests
-pub mod MemorySteps

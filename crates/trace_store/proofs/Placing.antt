@@ -21,7 +21,8 @@ use Rattle.trace_store.specs.declared.span.ViewResource.{ViewResource}
 use Rattle.trace_store.specs.declared.span.ViewScope.{ViewScope}
 use Rattle.trace_store.specs.declared.span.ViewSpan.{ViewSpan}
 use Rattle.trace_store.specs.SpanParts.{entries_of, entries_of_part}
-use Rattle.trace_store.specs.Sizes.{at_most_64_bits, resource_bytes, scope_bytes}
+use Rattle.otlp_read.specs.Memory.{at_most_64_bits}
+use Rattle.trace_store.specs.Sizes.{resource_bytes, scope_bytes}
 use Rattle.otlp_read.specs.declared.request.ResourceSpans.{ResourceSpans}
 use Rattle.otlp_read.specs.declared.request.ScopeSpans.{ScopeSpans}
 use Rattle.trace_store.specs.Requests.{IsOfOneTrace, Placed, TraceSet, and_spans, and_trace, key_of}

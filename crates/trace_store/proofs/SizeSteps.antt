@@ -5,7 +5,8 @@ use Rattle.std.specs.Prelude.{sum, sum_by, string_len}
 use Rattle.std.proofs.Math.ListN.{get_or}
 use Rattle.std.proofs.lemmas.List.Sums.{sum-map, sum_by-cons, sum_by_more, get_or-le-sum_by}
 use Rattle.otlp_read.specs.declared.any_value.AnyValue.{AnyValue, Array, Pairs, the_lemmas}
-use Rattle.trace_store.specs.Sizes.{at_most_64_bits, pair_bytes, pair_step, value_bytes}
+use Rattle.otlp_read.specs.Memory.{at_most_64_bits}
+use Rattle.trace_store.specs.Sizes.{pair_bytes, pair_step, value_bytes}
 
 array_step : {A : Type 0} (v : Vec (AnyValue A) A)
     → value_bytes (Array v) ≡ 48 + sum (map value_bytes v.items)

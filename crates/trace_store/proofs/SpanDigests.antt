@@ -11,7 +11,7 @@ use Rattle.std.proofs.lemmas.List.Folds.{find-append}
 use Rattle.std.proofs.lemmas.List.Sums.{sum_by-append}
 use Rattle.trace_store.specs.declared.span.ViewSpan.{ViewSpan}
 use Rattle.trace_store.specs.Facts.{is_error, names_none}
-use Rattle.trace_store.specs.Sizes.{at_most_64_bits}
+use Rattle.otlp_read.specs.Memory.{at_most_64_bits}
 use Rattle.trace_store.specs.Digests.{TraceFacts, digest_of, digest_of_kept, earliest_start}
 use Rattle.trace_store.specs.Digests.{first_of, latest_end, root_between, root_of}
 

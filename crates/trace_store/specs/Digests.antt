@@ -7,7 +7,7 @@ use Rattle.std.specs.Arc.{arc_value}
 use Rattle.std.specs.declared.sync.Arc.{Arc}
 use Rattle.trace_store.specs.declared.span.ViewSpan.{ViewSpan}
 use Rattle.trace_store.specs.Facts.{end_of, is_error, names_none}
-use Rattle.trace_store.specs.Sizes.{at_most_64_bits}
+use Rattle.otlp_read.specs.Memory.{at_most_64_bits}
 
 -- the root, the earliest start and the latest end in nanoseconds since 1970, and how many spans
 -- there are and how many of them are errors

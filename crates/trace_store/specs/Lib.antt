@@ -7,4 +7,3 @@ pub mod Requests
 pub mod SpanParts
 pub mod Facts
 pub mod Digests
-pub mod Memory

@@ -12,7 +12,8 @@ use Rattle.trace_store.specs.declared.span.ViewResource.{ViewResource}
 use Rattle.trace_store.specs.declared.span.ViewScope.{ViewScope}
 use Rattle.trace_store.specs.declared.span.ViewSpan.{ViewSpan}
 use Rattle.trace_store.specs.Keys.{trace_key}
-use Rattle.trace_store.specs.Sizes.{at_most_64_bits, resource_bytes, scope_bytes}
+use Rattle.otlp_read.specs.Memory.{at_most_64_bits}
+use Rattle.trace_store.specs.Sizes.{resource_bytes, scope_bytes}
 
 -- A span, with the resource and the scope that it is under (trace.proto: ResourceSpans,
 -- ScopeSpans), and how many bytes of these are counted as its own.

@@ -1,5 +1,5 @@
 -- How many bytes a span takes.
-use Rattle.std.specs.Prelude.{ℕ, ◌+◌, ◌-◌, ◌^◌, String, min, string_len, sum, sum_by, vec_len}
+use Rattle.std.specs.Prelude.{ℕ, ◌+◌, String, string_len, sum, sum_by, vec_len}
 use Rattle.otlp_read.specs.declared.any_value.AnyValue.{AnyValue, fold-AnyValue}
 use Rattle.otlp_read.specs.declared.any_value.AnyValue.TheOpen.{AnyValue-F}
 use Rattle.otlp_read.specs.declared.span.Event.{Event}
@@ -7,10 +7,6 @@ use Rattle.otlp_read.specs.declared.span.Link.{Link}
 use Rattle.otlp_read.specs.declared.span.Span.{Span}
 use Rattle.trace_store.specs.declared.span.ViewResource.{ViewResource}
 use Rattle.trace_store.specs.declared.span.ViewScope.{ViewScope}
-
--- at most what 64 bits hold
-abbrev pub at_most_64_bits : ℕ → ℕ
-at_most_64_bits n = min n (2 ^ 64 - 1)
 
 -- a key, and a value that takes this many bytes
 abbrev pub pair_step : {A : Type 0} → String A × ℕ → ℕ

@@ -10,7 +10,8 @@ ghost use Rattle.trace_store.specs.Requests as spec;
 ghost use Rattle.trace_store.specs.Requests.{IsOfOneTrace, and_spans, and_trace, keyed_of, keyed};
 ghost use Rattle.trace_store.specs.Requests.{spans_of_parts, spans_of_request, spans_of_resource};
 ghost use Rattle.trace_store.specs.Requests.{spans_of_scope};
-ghost use Rattle.trace_store.specs.Sizes.{at_most_64_bits, resource_bytes};
+ghost use Rattle.otlp_read.specs.Memory.{at_most_64_bits};
+ghost use Rattle.trace_store.specs.Sizes.{resource_bytes};
 
 use crate::Part;
 use crate::group::group;

@@ -1,7 +1,8 @@
 //! How many bytes a span takes.
 
 ghost use Rattle.std.specs.Prelude.{◌≡◌, sum, sum_by};
-ghost use Rattle.trace_store.specs.Sizes.{at_most_64_bits, event_bytes, link_bytes, pair_bytes};
+ghost use Rattle.otlp_read.specs.Memory.{at_most_64_bits};
+ghost use Rattle.trace_store.specs.Sizes.{event_bytes, link_bytes, pair_bytes};
 ghost use Rattle.trace_store.specs.Sizes.{resource_bytes, scope_bytes, span_bytes, texts_bytes};
 ghost use Rattle.trace_store.specs.Sizes.{value_bytes};
 
@@ -170,7 +171,8 @@ pub(crate) fn scope_size<A: Allocator>(scope: &ViewScope<A>) -> u64
 /// is 2^64 - 1 where it would be more. (profile)
 impl<A: Allocator> SpanSize for ViewSpan<A> {
     ghost use Rattle.std.specs.Prelude.{◌+◌};
-    ghost use Rattle.trace_store.specs.Sizes.{at_most_64_bits, span_bytes};
+    ghost use Rattle.otlp_read.specs.Memory.{at_most_64_bits};
+    ghost use Rattle.trace_store.specs.Sizes.{span_bytes};
 
     ghost size_of = { λ kept. at_most_64_bits (span_bytes kept.span + kept.shared) };
 

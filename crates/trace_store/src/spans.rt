@@ -1,7 +1,7 @@
 //! The spans of a trace, with their digest.
 
 ghost use Rattle.std.specs.Prelude.{◌≡◌, ◌+◌, ◌^◌, ◌<◌, ◌++◌, [], IfOk, length, sum_by};
-ghost use Rattle.trace_store.specs.Sizes.{at_most_64_bits};
+ghost use Rattle.otlp_read.specs.Memory.{at_most_64_bits};
 
 use crate::fold::{Digest, digest_of};
 use crate::size::{SpanSize, total_size};
@@ -20,7 +20,7 @@ pub struct Trace<S: SpanSize, D: Digest<S>, A: Allocator> {
 
 impl<S: SpanSize, D: Digest<S>, A: Allocator> Model for Trace<S, D, A> {
     ghost use Rattle.std.specs.Prelude.{◌≡◌, List, sum_by};
-    ghost use Rattle.trace_store.specs.Sizes.{at_most_64_bits};
+    ghost use Rattle.otlp_read.specs.Memory.{at_most_64_bits};
 
     ghost Value = { List S };
 

@@ -1,13 +1,11 @@
 //! What reading a request takes, and the digest of the trace that it has.
 use crate::tests::equal::assert_equal;
-use otlp_read::read_request;
+use otlp_read::{read_request, request_size};
 use std::alloc::Global;
 use std::hash::{BuildHasherDefault, FoldHasher};
 use std::sync::Arc;
 use std::test::Fail;
-use trace_store::{
-    Limits, SpanSize, TraceDigest, TraceStore, ViewSpan, request_size, service_of, take_apart,
-};
+use trace_store::{Limits, SpanSize, TraceDigest, TraceStore, ViewSpan, service_of, take_apart};
 
 /// A child that is an error, from 20 to 50, and after it its root, from 10 to 40, of the service
 /// `svc`.

@@ -3,7 +3,8 @@ use Rattle.std.specs.Arc.{arc_value}
 use Rattle.std.specs.BTreeSet.{contains}
 use Rattle.std.specs.Ordering.{nat_cmp}
 use Rattle.trace_store.specs.Requests.{keyed_of}
-use Rattle.trace_store.specs.Sizes.{at_most_64_bits, resource_bytes}
+use Rattle.otlp_read.specs.Memory.{at_most_64_bits}
+use Rattle.trace_store.specs.Sizes.{resource_bytes}
 use Rattle.trace_store.proofs.Placing.{empty_set, next_scope, resource_done}
 use Rattle.trace_store.proofs.Yielded.{none_left}
 use Rattle.trace_store.proofs.apart.push_resource.Goals as goal

@@ -1,6 +1,7 @@
 use Rattle.std.proofs.Common.{◌≡◌, ◌+◌, ◌*◌, take}
 use Rattle.std.specs.Prelude.{sum_by}
-use Rattle.trace_store.specs.Sizes.{at_most_64_bits, pair_bytes, value_bytes}
+use Rattle.otlp_read.specs.Memory.{at_most_64_bits}
+use Rattle.trace_store.specs.Sizes.{pair_bytes, value_bytes}
 use Rattle.trace_store.proofs.span_size.+size.Given as goal
 
 -- the bytes so far

@@ -1,6 +1,6 @@
 use Rattle.std.proofs.Common.{◌≡◌, take}
 use Rattle.std.specs.Prelude.{sum}
-use Rattle.trace_store.specs.Sizes.{at_most_64_bits}
+use Rattle.otlp_read.specs.Memory.{at_most_64_bits}
 use Rattle.trace_store.proofs.span_size.sum_of.Given as goal
 
 -- the sum so far

@@ -1,14 +1,19 @@
 -- How many bytes of memory the reading of a request takes, read off its bytes: its messages with
 -- the sizes of what is kept of them, and the bytes of their texts.
-use Rattle.std.specs.Prelude.{ℕ, zero, suc, ◌+◌, List, [], ◌∷◌, length, nat_eq, sum_by, unwrap_or}
+use Rattle.std.specs.Prelude.{ℕ, zero, suc, ◌+◌, ◌-◌, ◌^◌, List, [], ◌∷◌, length, min, nat_eq}
+use Rattle.std.specs.Prelude.{sum_by, unwrap_or}
 use Rattle.std.specs.Map.{lookup}
 use Rattle.model_message.specs.Wire.{Field, Payload, len, row}
-use Rattle.trace_store.specs.declared.memory.Kind.{Kind}
-use Rattle.trace_store.specs.declared.memory.Kind.TheVariants.{Request, ResourceSpans, Resource}
-use Rattle.trace_store.specs.declared.memory.Kind.TheVariants.{ScopeSpans, Scope, Span, Event, Link}
-use Rattle.trace_store.specs.declared.memory.Kind.TheVariants.{Status, Pair, Value, Values, Pairs}
-use Rattle.trace_store.specs.declared.memory.Content.{Content}
-use Rattle.trace_store.specs.declared.memory.Content.TheVariants.{Nothing, Bytes, Message}
+use Rattle.otlp_read.specs.declared.memory.Kind.{Kind}
+use Rattle.otlp_read.specs.declared.memory.Kind.TheVariants.{Request, ResourceSpans, Resource}
+use Rattle.otlp_read.specs.declared.memory.Kind.TheVariants.{ScopeSpans, Scope, Span, Event, Link}
+use Rattle.otlp_read.specs.declared.memory.Kind.TheVariants.{Status, Pair, Value, Values, Pairs}
+use Rattle.otlp_read.specs.declared.memory.Content.{Content}
+use Rattle.otlp_read.specs.declared.memory.Content.TheVariants.{Nothing, Bytes, Message}
+
+-- at most what 64 bits hold
+abbrev pub at_most_64_bits : ℕ → ℕ
+at_most_64_bits n = min n (2 ^ 64 - 1)
 
 -- What is kept of the fields of a message: of a text or of bytes themselves, and of a message this
 -- many bytes besides what is kept of its fields. 48 is for a value, 64 for a pair, and a pair has a

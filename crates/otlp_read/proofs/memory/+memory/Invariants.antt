@@ -1,8 +1,8 @@
 use Rattle.std.proofs.Common.{◌+◌, ◌-◌, ◌*◌}
 use Rattle.model_message.specs.Wire.{row}
-use Rattle.trace_store.specs.Memory.{field_size, message_size}
-use Rattle.trace_store.proofs.MemorySteps.{SizedSoFar}
-use Rattle.trace_store.proofs.memory.+memory.Given as goal
+use Rattle.otlp_read.specs.Memory.{field_size, message_size}
+use Rattle.otlp_read.proofs.MemorySteps.{SizedSoFar}
+use Rattle.otlp_read.proofs.memory.+memory.Given as goal
 
 abbrev pub decreases-field_size : goal.decreases-field_size
 decreases-field_size l = 2 * l.depth + 1

@@ -5,9 +5,8 @@ use Rattle.std.specs.Prelude.{min, sum_by}
 use Rattle.std.proofs.lemmas.List.Sums.{sum_by-cons}
 use Rattle.model_message.specs.Reading.{Reading}
 use Rattle.model_message.specs.Wire.{Field, put, row}
-use Rattle.trace_store.specs.declared.memory.Kind.{Kind}
-use Rattle.trace_store.specs.Memory.{field_size, message_size}
-use Rattle.trace_store.specs.Sizes.{at_most_64_bits}
+use Rattle.otlp_read.specs.declared.memory.Kind.{Kind}
+use Rattle.otlp_read.specs.Memory.{at_most_64_bits, field_size, message_size}
 
 -- `total` bytes were counted of all fields, and these fields are left
 pub record SizedSoFar (f : Field → ℕ) (all left : Reading (List Field)) (total : ℕ) : Type 0 where

@@ -2,10 +2,9 @@ use Rattle.std.proofs.Common.{◌-◌, ◌∙◌, List, Some, ap, subst, sym}
 use Rattle.model_message.specs.Reading.{Reading}
 use Rattle.model_message.specs.Wire.{Field, row}
 use Rattle.otlp_wire.specs.Fields.{GivesField}
-use Rattle.trace_store.specs.Memory.{field_size, message_size}
-use Rattle.trace_store.specs.Sizes.{at_most_64_bits}
-use Rattle.trace_store.proofs.MemorySteps.{all_sized, message_none, message_step}
-use Rattle.trace_store.proofs.memory.+memory.Goals as goal
+use Rattle.otlp_read.specs.Memory.{at_most_64_bits, field_size, message_size}
+use Rattle.otlp_read.proofs.MemorySteps.{all_sized, message_none, message_step}
+use Rattle.otlp_read.proofs.memory.+memory.Goals as goal
 
 pub message_size-returns-then-depth-eq0 : goal.message_size-returns-then-depth-eq0
 message_size-returns-then-depth-eq0 t c =

@@ -2,8 +2,8 @@
 
 ghost use Rattle.std.specs.Prelude.{◌≡◌};
 ghost use Rattle.otlp_wire.specs.Fields.{field_of};
-ghost use Rattle.trace_store.specs.Memory as spec;
-ghost use Rattle.trace_store.specs.Sizes.{at_most_64_bits};
+ghost use Rattle.otlp_read.specs.Memory as spec;
+ghost use Rattle.otlp_read.specs.Memory.{at_most_64_bits};
 
 use otlp_wire::{Field, Fields, Payload};
 
