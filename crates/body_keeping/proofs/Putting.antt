@@ -4,7 +4,7 @@ use Rattle.std.proofs.Common.{length, take}
 use Rattle.std.proofs.lemmas.List.{take_all}
 use Rattle.std.specs.Prelude.{Option, Result, Ok, Err, OnOk}
 use Rattle.std.specs.List.{AllByRecursion, slice_index_or}
-use Rattle.spool_device.specs.Disks.{Disk}
+use Rattle.spool.specs.Disks.{Disk}
 use Rattle.spool.specs.declared.state.Spool.{Spool}
 use Rattle.body_keeping.specs.Kept.{Puts, PutsAll}
 

@@ -5,7 +5,7 @@ use Rattle.std.specs.Prelude.{nat_le, Option, Some, None, IfSome, IsSome, Vec}
 use Rattle.std.specs.List.{enumerate_from}
 use Rattle.std.proofs.lemmas.List.Elements.{filter-append}
 use Rattle.body_desk.specs.Bodies.{bodies_view}
-use Rattle.spool_device.specs.Disks.{Disk}
+use Rattle.spool.specs.Disks.{Disk}
 use Rattle.spool.specs.Spools.{AreRising, done_to, next_number, numbered_from, waiting}
 use Rattle.spool.specs.Settled.{IsSettled, device_of}
 use Rattle.spool.specs.declared.state.Spool.{Spool}

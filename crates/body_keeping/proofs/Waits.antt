@@ -5,7 +5,7 @@ use Rattle.std.proofs.Common.{◌≤◌, max}
 use Rattle.std.specs.Prelude.{Option, Some, None, IfSome, IsSome, flat_map, slice_get}
 use Rattle.std.specs.List.{enumerate_from}
 use Rattle.std.proofs.lemmas.List.{drop_all}
-use Rattle.spool_device.specs.Disks.{Disk, SpoolFile}
+use Rattle.spool.specs.Disks.{Disk, SpoolFile}
 use Rattle.spool.specs.Spools.{done_to, numbered_from, waiting, waiting_from, waiting_in}
 use Rattle.spool.specs.Settled.{IsSettled}
 use Rattle.spool.specs.declared.state.Spool.{Spool}

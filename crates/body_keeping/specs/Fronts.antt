@@ -1,8 +1,8 @@
 -- Bodies of a spool that are at a desk too. (profile)
 use Rattle.std.specs.Prelude.{◌≡◌, ℕ, List, [], ◌++◌, map, Option, Some, None}
 use Rattle.std.specs.List.{enumerate_from}
-use Rattle.spool_device.specs.Crashes.{LeavesOnly}
-use Rattle.spool_device.specs.Disks.{Disk}
+use Rattle.spool.specs.Crashes.{LeavesOnly}
+use Rattle.spool.specs.Disks.{Disk}
 use Rattle.spool.specs.Spools.{next_number, numbered_from, waiting}
 use Rattle.spool.specs.Settled.{IsSettled, device_of}
 use Rattle.spool.specs.declared.state.Spool.{Spool}

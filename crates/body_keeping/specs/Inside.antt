@@ -1,6 +1,6 @@
 -- What the fields of what keeps bodies show, and what is true of them.
 use Rattle.std.specs.Prelude.{◌≡◌, ℕ, ◌+◌, ◌^◌, ◌<◌, ◌≤◌, true, false, IfSome, IsSome, length}
-use Rattle.spool_device.specs.Disks.{Disk}
+use Rattle.spool.specs.Disks.{Disk}
 use Rattle.body_keeping.specs.Fronts.{IsInUse, spool_next}
 use Rattle.body_keeping.specs.Kept.{HasHistory, Kept}
 use Rattle.body_keeping.specs.declared.keeping.Keeping.TheInside.{Inside}

@@ -5,7 +5,7 @@ use Rattle.model_body.specs.Histories as events
 use Rattle.model_body.specs.Histories.{BodyEvent}
 use Rattle.model_body.specs.Desks.{BodyDesk, Does, HasRoom, IsDesk, after}
 use Rattle.std.specs.List.{enumerate_from}
-use Rattle.spool_device.specs.Disks.{Disk}
+use Rattle.spool.specs.Disks.{Disk}
 use Rattle.spool.specs.Spools.{HasNoRoom, LeftByNote, LeftByPut, numbered_from}
 use Rattle.spool.specs.Settled.{IsSettled, device_of, limit_of}
 use Rattle.spool.specs.declared.state.Spool.{Spool}

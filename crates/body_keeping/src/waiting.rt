@@ -9,8 +9,7 @@ ghost use Rattle.body_keeping.specs.Kept.{AdmitsFirst, AreFull, LeftByNotes, Lef
 
 use body_desk::{AdmitFault, BodyDesk};
 use relay_service::KeepFault;
-use spool::{Spool, SpoolError, WaitingBodies};
-use spool_device::Device;
+use spool::{Device, Spool, SpoolError, WaitingBodies};
 use std::alloc::Global;
 
 /// The number that the next body of a spool gets, or 0 where there is no spool.

@@ -1,7 +1,6 @@
 //! The folder of a spool.
 
-use spool_device::DeviceError;
-use spool_files::SpoolFolder;
+use spool::{DeviceError, SpoolFolder};
 
 /// What opens the folder of a spool, at the start and again after it failed.
 #[derive(Drop)]

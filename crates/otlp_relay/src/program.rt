@@ -23,8 +23,7 @@ use relay_keeper::{
     Closer, Keeping, Naming, Poster, RelayBlank, RelayParts, RelaySender, SharedKeeper,
 };
 use relay_service::{BodyKeeper, Hosts, NoPieces, RelayService};
-use spool::SpoolError;
-use spool_files::SpoolFolder;
+use spool::{SpoolError, SpoolFolder};
 use std::alloc::Global;
 use std::fs::File;
 use std::io::Write;

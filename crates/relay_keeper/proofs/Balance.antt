@@ -13,7 +13,7 @@ use Rattle.model_body.specs.Desks.{BodyDesk}
 use Rattle.body_keeping.specs.Kept.{Kept, kept_count, remaining_in}
 use Rattle.relay_keeper.specs.Accounts.{Said, Sent, posts, sends, closes, posted_in, sent_in}
 use Rattle.relay_keeper.specs.Accounts.{closed_in, given_up}
-use Rattle.spool_device.specs.Disks.{Disk}
+use Rattle.spool.specs.Disks.{Disk}
 use Rattle.relay_keeper.specs.declared.holdings.Holdings.{Holdings}
 use Rattle.relay_keeper.specs.Agreement.{Agrees, AreInOrder, AreKnown, IsInOrder, came_of}
 use Rattle.relay_keeper.specs.Balances.{Balances, SpoolBalances, delivered_in, lost_in}

@@ -1,7 +1,7 @@
 -- What a hold of the lock shows.
 use Rattle.std.proofs.Common.{◌≡◌, subst, ℕ, List, [], true, false}
 use Rattle.std.specs.Prelude.{Result, Ok, Err, IsErrAnd, IsErrOf}
-use Rattle.spool_device.specs.Disks.{Disk}
+use Rattle.spool.specs.Disks.{Disk}
 use Rattle.body_keeping.specs.Kept.{Admits, Kept, Puts}
 use Rattle.relay_keeper.specs.Holds.{KeepsInHold}
 

@@ -4,7 +4,7 @@ use Rattle.std.proofs.Common.{false, append_assoc}
 use Rattle.std.specs.Prelude.{map, Option, Some, None}
 use Rattle.std.proofs.lemmas.List.{append-nil}
 use Rattle.model_desk.specs.Retries.{Fate, Next, fate_of}
-use Rattle.spool_device.specs.Disks.{Disk}
+use Rattle.spool.specs.Disks.{Disk}
 use Rattle.body_keeping.specs.Kept.{Admits, Kept, remaining_in}
 use Rattle.body_keeping.proofs.Basics.{true-false}
 use Rattle.relay_keeper.specs.Accounts.{Sent, ended_after, ended_bodies, ended_by, new_sent}

@@ -4,7 +4,7 @@ use Rattle.std.proofs.Common.{◌∷◌, ◌++◌, append_assoc, length}
 use Rattle.std.specs.Prelude.{Option, IfSome, Vec}
 use Rattle.std.specs.List.{AllByRecursion, enumerate_from, remove, slice_index_or}
 use Rattle.body_desk.specs.Bodies.{bodies_view}
-use Rattle.spool_device.specs.Disks.{Disk}
+use Rattle.spool.specs.Disks.{Disk}
 use Rattle.spool.specs.Settled.{IsSettled}
 use Rattle.spool.specs.declared.state.Spool.{Spool}
 use Rattle.body_keeping.specs.Fronts.{spool_waiting}

@@ -3,7 +3,7 @@ use Rattle.std.specs.Prelude.{◌≡◌, ◌≢◌, ℕ, ◌+◌, ◌≤◌, Boo
 use Rattle.std.specs.Prelude.{◌++◌, sum_by, if◌then◌else◌, Option, is_some}
 use Rattle.model_body.specs.Histories.{Turn, idle, is_out, again}
 use Rattle.model_body.specs.Desks.{BodyDesk}
-use Rattle.spool_device.specs.Disks.{Disk}
+use Rattle.spool.specs.Disks.{Disk}
 use Rattle.body_keeping.specs.Kept.{Kept, remaining_in}
 use Rattle.relay_keeper.specs.Accounts.{Said, Sent, posts, sends, closes, given_up, last_batch}
 

@@ -1,7 +1,7 @@
 -- What is done in a hold of the lock: a step at what is kept then. (profile)
 use Rattle.std.specs.Prelude.{◌≡◌, ◌⊎◌, ℕ, ◌<◌, List, true, false}
 use Rattle.model_body.specs.Desks.{HasRoom, body_size}
-use Rattle.spool_device.specs.Disks.{Disk}
+use Rattle.spool.specs.Disks.{Disk}
 use Rattle.relay_service.specs.declared.stats.Report.{Report}
 use Rattle.body_keeping.specs.Kept.{Admits, IsFull, IsReport, Kept, PutsAmong}
 

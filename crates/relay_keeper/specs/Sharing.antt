@@ -1,6 +1,6 @@
 -- What the fields of what the server's thread keeps bodies with show, and what is true of them.
 use Rattle.std.specs.Prelude.{◌≡◌, ◌⊎◌, ℕ, ◌+◌, ◌++◌, List, [], ◌∷◌, sum_by}
-use Rattle.spool_device.specs.Disks.{Disk}
+use Rattle.spool.specs.Disks.{Disk}
 use Rattle.body_desk.specs.Bodies.{bodies_view}
 use Rattle.relay_keeper.specs.Holds.{KeepsInHold}
 use Rattle.relay_keeper.specs.Together.{AreKept, AreReadable}

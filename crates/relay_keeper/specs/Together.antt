@@ -2,7 +2,7 @@
 use Rattle.std.specs.Prelude.{◌≡◌, ℕ, ◌<◌, List, Vec, length}
 use Rattle.std.specs.List.{AllByRecursion, slice_index_or}
 use Rattle.model_body.specs.Names.{IsReadable}
-use Rattle.spool_device.specs.Disks.{Disk}
+use Rattle.spool.specs.Disks.{Disk}
 use Rattle.relay_keeper.specs.Holds.{KeepsInHold}
 
 -- each of these bodies is read

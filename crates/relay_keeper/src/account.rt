@@ -2,7 +2,7 @@
 use account_book::{Blank, Change, Opening};
 use body_keeping::Keeping;
 use retry_core::Next;
-use spool_device::Device;
+use spool::Device;
 use std::marker::{Model, PhantomData};
 use std::snapshot::Snapshot;
 

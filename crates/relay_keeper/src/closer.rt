@@ -9,7 +9,7 @@ use account_book::Naming;
 use body_names::LostSink;
 use body_sending::name_ended;
 use retry_core::Fate;
-use spool_device::Device;
+use spool::Device;
 use std::fmt;
 use std::marker::Model;
 use std::sync::{Mutex, Wait};

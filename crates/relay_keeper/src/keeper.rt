@@ -10,7 +10,7 @@ use crate::holdings::Holdings;
 use crate::sender::RelaySender;
 use account_book::Naming;
 use relay_service::{BodyKeeper, KeepFault, LostSpan, Report};
-use spool_device::Device;
+use spool::Device;
 use std::alloc::{AllocError, Global};
 use std::marker::Model;
 use std::sync::{Arc, Mutex, Wait};

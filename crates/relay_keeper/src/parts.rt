@@ -13,7 +13,7 @@ use crate::sender::RelaySender;
 use account_book::Naming;
 use body_keeping::Keeping;
 use body_sending::BodySender;
-use spool_device::Device;
+use spool::Device;
 use std::snapshot::Snapshot;
 
 /// What is kept, and those who share it once it is under a lock: what keeps bodies, what sends

@@ -3,8 +3,8 @@ use Rattle.std.proofs.Common.{◌≡◌, sym, ap, ap₂, ◌∙◌, subst, ℕ, 
 use Rattle.std.proofs.Common.{List, ◌++◌, length, take, arith}
 use Rattle.std.specs.List.{enumerate_from}
 use Rattle.std.proofs.lemmas.List.{append-nil}
-use Rattle.spool_device.specs.Disks.{Disk, grow_last, disk_size}
-use Rattle.spool_device.specs.Crashes.{Appended, LeavesOnly}
+use Rattle.spool.specs.Disks.{Disk, grow_last, disk_size}
+use Rattle.spool.specs.Crashes.{Appended, LeavesOnly}
 use Rattle.spool.specs.Records.{spelled}
 use Rattle.spool.specs.Spools.{done_to, next_number, waiting, waiting_from, CanGrow}
 use Rattle.spool.specs.Spools.{reserved, Rises}

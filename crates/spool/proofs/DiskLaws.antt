@@ -12,7 +12,7 @@ use Rattle.std.proofs.lemmas.List.Concat.{flat_map-append}
 use Rattle.std.proofs.lemmas.List.Elements.{filter-append, filter_map-append}
 use Rattle.std.proofs.lemmas.List.Sums.{sum_by-append}
 use Rattle.std.specs.List.{enumerate_from}
-use Rattle.spool_device.specs.Disks.{SpoolFile, Disk, grown, grow_last, disk_size}
+use Rattle.spool.specs.Disks.{SpoolFile, Disk, grown, grow_last, disk_size}
 use Rattle.spool.specs.Records.{contents, rest, bodies, notes}
 use Rattle.spool.specs.Spools.{bodies_in, notes_in, is_whole, end_of, greatest, done_to}
 use Rattle.spool.specs.Spools.{next_number}

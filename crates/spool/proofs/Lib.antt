@@ -10,3 +10,4 @@ pub mod CallLaws
 pub mod StateLaws
 pub mod ScanLaws
 pub mod Moments
+pub mod MemoryLaws

@@ -1,8 +1,8 @@
 -- How a run of calls of a device goes on.
 use Rattle.std.proofs.Common.{◌≡◌, inl, inr, subst, ℕ, arith}
 use Rattle.std.proofs.lemmas.Bool.{cases_lt}
-use Rattle.spool_device.specs.Disks.{Disk}
-use Rattle.spool_device.specs.Crashes.{After, Only, LeavesOnly}
+use Rattle.spool.specs.Disks.{Disk}
+use Rattle.spool.specs.Crashes.{After, Only, LeavesOnly}
 
 module _ {D : Type 0} (moment : D → ℕ) (left_at : D → ℕ → Disk → Type 0) where
   -- Before the first call.

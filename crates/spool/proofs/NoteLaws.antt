@@ -3,8 +3,8 @@ use Rattle.std.proofs.Common.{◌≡◌, inl, inr, sym, ap, ◌∙◌, subst, �
 use Rattle.std.proofs.Common.{◌≤◌, min, max}
 use Rattle.std.proofs.Common.{List, [], ◌∷◌, ◌++◌, length, take, arith}
 use Rattle.std.proofs.lemmas.List.Elements.{filter_map-append}
-use Rattle.spool_device.specs.Disks.{Disk, grown, grow_last, disk_size}
-use Rattle.spool_device.specs.Crashes.{Appended, LeavesOnly}
+use Rattle.spool.specs.Disks.{Disk, grown, grow_last, disk_size}
+use Rattle.spool.specs.Crashes.{Appended, LeavesOnly}
 use Rattle.spool.specs.Records.{note_content, note_size, contents, notes}
 use Rattle.spool.specs.Records.{note_of}
 use Rattle.spool.specs.Spools.{done_to, next_number, waiting, waiting_from, CanGrow}

@@ -10,7 +10,7 @@ use Rattle.std.proofs.lemmas.List.{append-nil, drop_all, take-map}
 use Rattle.std.proofs.lemmas.List.{length-take, length-map}
 use Rattle.std.proofs.lemmas.List.Sums.{sum_by-append}
 use Rattle.std.specs.List.{enumerate_from, AllByRecursion}
-use Rattle.spool_device.specs.Disks.{SpoolFile, Disk, new_file, grown, grow_last, disk_size}
+use Rattle.spool.specs.Disks.{SpoolFile, Disk, new_file, grown, grow_last, disk_size}
 use Rattle.spool.specs.Records.{contents, bodies, notes, body_content, note_content}
 use Rattle.spool.specs.Records.{IsContent, spelled}
 use Rattle.spool.specs.Records.{record_bytes, note_size}

@@ -4,8 +4,8 @@ use Rattle.std.proofs.Common.{◌≤◌}
 use Rattle.std.proofs.Common.{List, [], ◌∷◌, ◌++◌, length, map, drop, arith, length-append}
 use Rattle.std.specs.Prelude.{Option, Some, None, IsSome}
 use Rattle.std.specs.Option.{option_to_list}
-use Rattle.spool_device.specs.Disks.{SpoolFile, Disk, disk_size}
-use Rattle.spool_device.specs.Crashes.{Removed, Only, LeavesOnly}
+use Rattle.spool.specs.Disks.{SpoolFile, Disk, disk_size}
+use Rattle.spool.specs.Crashes.{Removed, Only, LeavesOnly}
 use Rattle.spool.specs.Spools.{end_of, done_to, next_number, waiting, CanGrow, Rises}
 use Rattle.spool.specs.Settled.{segment_of, IsSettled, IsNoted, IsNoLarger}
 use Rattle.spool.specs.declared.state.Segment.{Segment}

@@ -3,7 +3,7 @@ use Rattle.std.proofs.Common.{◌≡◌, inl, inr, sym, ap, ap₂, ◌∙◌, su
 use Rattle.std.proofs.Common.{max, List, [], ◌∷◌, ◌++◌, length, take, drop, map, arith, refl}
 use Rattle.std.proofs.lemmas.Bool.{cases_lt}
 use Rattle.std.specs.List.{AllByRecursion, enumerate_from}
-use Rattle.spool_device.specs.Disks.{SpoolFile, Disk, grow_last}
+use Rattle.spool.specs.Disks.{SpoolFile, Disk, grow_last}
 use Rattle.spool.specs.Spools.{bodies_in, bodies_end, end_of, greatest, done_to}
 use Rattle.spool.specs.Spools.{next_number, waiting_in}
 use Rattle.spool.specs.Spools.{waiting_from, waiting, numbered_from, Rises, AreRising}

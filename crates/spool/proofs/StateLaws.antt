@@ -6,8 +6,8 @@ use Rattle.std.proofs.Common.{length-append}
 use Rattle.std.specs.Prelude.{Option, Some, None, IsSome}
 use Rattle.std.specs.Option.{option_to_list}
 use Rattle.std.proofs.lemmas.List.{map-append, same_from_push}
-use Rattle.spool_device.specs.Disks.{SpoolFile, Disk, new_file, grown, grow_last, disk_size}
-use Rattle.spool_device.specs.Crashes.{Created, Only}
+use Rattle.spool.specs.Disks.{SpoolFile, Disk, new_file, grown, grow_last, disk_size}
+use Rattle.spool.specs.Crashes.{Created, Only}
 use Rattle.spool.specs.Records.{bodies, rest}
 use Rattle.spool.specs.Spools.{bodies_in, end_of, done_to, next_number, CanGrow, Rises}
 use Rattle.spool.specs.Settled.{segment_of, IsSettled, IsSame, Grows, grown_by}

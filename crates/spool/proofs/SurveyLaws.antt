@@ -8,8 +8,8 @@ use Rattle.std.specs.Option.{option_to_list}
 use Rattle.std.proofs.lemmas.Bool.{cases_lt}
 use Rattle.std.proofs.lemmas.List.{append-nil, map-append, same_from_push, get_or-map, length-map}
 use Rattle.std.proofs.lemmas.List.Sums.{sum_by-append}
-use Rattle.spool_device.specs.Disks.{SpoolFile, Disk, disk_size, file_numbers}
-use Rattle.spool_device.specs.Crashes.{Only}
+use Rattle.spool.specs.Disks.{SpoolFile, Disk, disk_size, file_numbers}
+use Rattle.spool.specs.Crashes.{Only}
 use Rattle.spool.specs.Records.{contents, rest, bodies, notes}
 use Rattle.spool.specs.Spools.{bodies_in, notes_in, is_whole, bodies_end, end_of, greatest}
 use Rattle.spool.specs.Spools.{done_to, next_number}

@@ -1,6 +1,6 @@
 -- What a spool says of an error of its device. (profile)
-use Rattle.spool_device.specs.declared.error.DeviceError.{DeviceError}
-use Rattle.spool_device.specs.declared.error.DeviceError.TheVariants as device
+use Rattle.spool.specs.declared.device_error.DeviceError.{DeviceError}
+use Rattle.spool.specs.declared.device_error.DeviceError.TheVariants as device
 use Rattle.spool.specs.declared.error.SpoolError.{SpoolError}
 use Rattle.spool.specs.declared.error.SpoolError.TheVariants as errors
 

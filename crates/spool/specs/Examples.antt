@@ -1,6 +1,6 @@
 -- Files of the worked values, by hand, with the CRC-32 of zlib.
 use Rattle.std.specs.Prelude.{ℕ, List, [], ◌∷◌, ◌++◌, take}
-use Rattle.spool_device.specs.Disks.{SpoolFile}
+use Rattle.spool.specs.Disks.{SpoolFile}
 
 -- the record of the body 7, 8
 abbrev pub first : List ℕ

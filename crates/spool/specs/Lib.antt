@@ -4,3 +4,6 @@ pub mod Errors
 pub mod Examples
 pub mod Settled
 pub mod Surveys
+pub mod Disks
+pub mod Crashes
+pub mod Memory

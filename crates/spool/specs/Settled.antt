@@ -3,8 +3,8 @@ use Rattle.std.specs.Prelude.{◌≡◌, ℕ, ◌+◌, ◌-◌, ◌*◌, ◌<◌
 use Rattle.std.specs.Prelude.{Option, Some, None, IsSome, min, ◌^◌}
 use Rattle.std.specs.Option.{option_to_list}
 use Rattle.std.specs.List.{AllByRecursion}
-use Rattle.spool_device.specs.Disks.{SpoolFile, Disk, grown, grow_last, disk_size}
-use Rattle.spool_device.specs.Crashes.{Only}
+use Rattle.spool.specs.Disks.{SpoolFile, Disk, grown, grow_last, disk_size}
+use Rattle.spool.specs.Crashes.{Only}
 use Rattle.spool.specs.Spools.{end_of, done_to, next_number, waiting, waiting_from, CanGrow}
 use Rattle.spool.specs.Spools.{notes_in, greatest, Rises}
 use Rattle.spool.specs.Records.{IsContent, spelled, body_content, note_content, note_size, rest}

@@ -4,7 +4,7 @@ use Rattle.std.specs.Prelude.{◌++◌}
 use Rattle.std.specs.Prelude.{length, map, take, drop, flat_map, filter, sum_by, nat_le, true}
 use Rattle.std.specs.Prelude.{if◌then◌else◌, Any, ◌^◌}
 use Rattle.std.specs.List.{AllByRecursion, enumerate_from}
-use Rattle.spool_device.specs.Disks.{SpoolFile, Disk, disk_size}
+use Rattle.spool.specs.Disks.{SpoolFile, Disk, disk_size}
 use Rattle.spool.specs.Records.{contents, rest, bodies, notes, note_size, spelled, body_content}
 
 -- ---- one file

@@ -2,17 +2,16 @@
 ghost use Rattle.std.specs.Prelude.{◌≡◌, ◌⊎◌, ℕ, ◌+◌, ◌^◌, ◌<◌, ◌≤◌, List, map, IfOk, OnOk, IsErrOf};
 ghost use Rattle.std.specs.Prelude.{◌++◌, IsSome};
 ghost use Rattle.std.specs.List.{enumerate_from};
-ghost use Rattle.spool_device.specs.Disks.{disk_size};
-ghost use Rattle.spool_device.specs.Crashes.{LeavesOnly};
+ghost use Rattle.spool.specs.Disks.{disk_size};
+ghost use Rattle.spool.specs.Crashes.{LeavesOnly};
 ghost use Rattle.spool.specs.Records.{note_size};
 ghost use Rattle.spool.specs.Spools.{waiting, next_number, reserved, numbered_from};
 ghost use Rattle.spool.specs.Spools.{LeftByPut, LeftByNote, HasNoRoom};
 ghost use Rattle.spool.specs.Settled.{IsSettled, IsNoted, IsPut, IsNote};
 
-use crate::SpoolError;
 use crate::records::{bodies_record, note_record};
 use crate::state::{Spool, room_for};
-use spool_device::Device;
+use crate::{Device, SpoolError};
 use std::alloc::Global;
 
 impl<D: Device> Spool<D> {

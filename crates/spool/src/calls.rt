@@ -2,16 +2,15 @@
 ghost use Rattle.std.specs.Prelude.{◌≡◌, ◌⊎◌, ℕ, ◌+◌, ◌-◌, ◌*◌, ◌^◌, ◌<◌, ◌≤◌, List, [], ◌∷◌, ◌++◌, length, map};
 ghost use Rattle.std.specs.Prelude.{IfOk, OnOk, IsErrOf};
 ghost use Rattle.std.specs.List.{enumerate_from};
-ghost use Rattle.spool_device.specs.Disks.{disk_size};
-ghost use Rattle.spool_device.specs.Crashes.{LeavesOnly};
+ghost use Rattle.spool.specs.Disks.{disk_size};
+ghost use Rattle.spool.specs.Crashes.{LeavesOnly};
 ghost use Rattle.spool.specs.Records.{note_size};
 ghost use Rattle.spool.specs.Spools.{waiting, next_number, reserved, numbered_from, LeftByPut, LeftByNote};
 ghost use Rattle.spool.specs.Spools.{HasNoRoom};
 ghost use Rattle.spool.specs.Settled.{IsSettled, device_of, limit_of};
 
-use crate::SpoolError;
 use crate::state::Spool;
-use spool_device::Device;
+use crate::{Device, SpoolError};
 use std::alloc::Global;
 
 impl<D: Device> Spool<D> {

@@ -1,10 +1,10 @@
 //! Why a call of a spool failed.
 ghost use Rattle.std.specs.Prelude.{◌≡◌};
-ghost use Rattle.spool_device.specs.declared.error.DeviceError.TheVariants as device;
+ghost use Rattle.spool.specs.declared.device_error.DeviceError.TheVariants as device;
 ghost use Rattle.spool.specs.declared.error.SpoolError.TheVariants.{Memory};
 ghost use Rattle.spool.specs.Errors.{spool_error};
 
-use spool_device::DeviceError;
+use crate::DeviceError;
 use std::alloc::{AllocError, AllocFailed};
 use thiserror::Error;
 

@@ -3,17 +3,16 @@ ghost use Rattle.std.specs.Prelude.{◌≡◌, ℕ, ◌+◌, ◌≤◌, List, []
 ghost use Rattle.std.specs.Prelude.{◌↔◌, ◌≢◌, drop, true, if◌then◌else◌, ◌==◌, OnOk, IsErrOf};
 ghost use Rattle.std.specs.Option.{option_to_list};
 ghost use Rattle.std.specs.List.{enumerate_from};
-ghost use Rattle.spool_device.specs.Disks.{SpoolFile, disk_size};
-ghost use Rattle.spool_device.specs.Crashes.{LeavesOnly};
+ghost use Rattle.spool.specs.Disks.{SpoolFile, disk_size};
+ghost use Rattle.spool.specs.Crashes.{LeavesOnly};
 ghost use Rattle.spool.specs.Records.{contents, bodies};
 ghost use Rattle.spool.specs.Spools.{done_to, next_number, waiting_in};
 ghost use Rattle.spool.specs.Settled.{IsSettled, device_of, limit_of, segment_of};
 
-use crate::SpoolError;
 use crate::records::{bodies_after, torn_count};
 use crate::state::{Segment, Spool};
+use crate::{Device, SpoolError};
 use gzip::CrcTable;
-use spool_device::Device;
 use std::alloc::Global;
 
 /// The bodies of a file that wait, in order.

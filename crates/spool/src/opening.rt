@@ -1,16 +1,15 @@
 //! Opening a spool: what its files are.
 ghost use Rattle.std.specs.Prelude.{◌≡◌, ℕ, ◌+◌, ◌*◌, ◌^◌, ◌<◌, ◌≤◌, List, [], ◌∷◌, ◌++◌, length, IfOk, IfErr, OnOk, IsErrOf};
-ghost use Rattle.spool_device.specs.Disks.{SpoolFile, Disk};
-ghost use Rattle.spool_device.specs.Crashes.{LeavesOnly, Only};
+ghost use Rattle.spool.specs.Disks.{SpoolFile, Disk};
+ghost use Rattle.spool.specs.Crashes.{LeavesOnly, Only};
 ghost use Rattle.spool.specs.Spools.{damaged_bytes, Rises};
 ghost use Rattle.spool.specs.Settled.{IsSettled, device_of, limit_of};
 ghost use Rattle.spool.specs.Surveys.{IsSurvey, IsSplit};
 
-use crate::SpoolError;
 use crate::records::{scan, torn_count};
 use crate::state::{Segment, Spool};
+use crate::{Device, SpoolError};
 use gzip::CrcTable;
-use spool_device::Device;
 use std::alloc::Global;
 
 /// A spool that was opened.

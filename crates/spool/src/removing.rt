@@ -1,14 +1,13 @@
 //! Removing files whose bodies are all delivered.
 ghost use Rattle.std.specs.Prelude.{◌≡◌, ℕ, ◌+◌, ◌<◌, ◌≤◌, true, false, OnOk, IsErrOf};
-ghost use Rattle.spool_device.specs.Crashes.{LeavesOnly};
+ghost use Rattle.spool.specs.Crashes.{LeavesOnly};
 ghost use Rattle.spool.specs.Spools.{done_to, next_number};
 ghost use Rattle.spool.specs.Settled.{IsSettled, IsNoted, IsNoLarger, FirstIsDone};
 ghost use Rattle.std.specs.Prelude.{IsSome, vec_len};
 
-use crate::SpoolError;
 use crate::state::{Segment, Spool};
 use crate::synced::remove_synced;
-use spool_device::Device;
+use crate::{Device, SpoolError};
 
 /// Whether all bodies of the first segment are noted as delivered.
 fn first_is_done(older: &[Segment], done: u64) -> bool

@@ -2,15 +2,14 @@
 ghost use Rattle.std.specs.Prelude.{◌≡◌, ◌≢◌, ◌⊎◌, ℕ, ◌+◌, ◌-◌, ◌*◌, ◌^◌, ◌<◌, ◌≤◌, min, List, [], ◌∷◌, ◌++◌, length, map};
 ghost use Rattle.std.specs.Prelude.{true, false, Some, IsSome, MatchOption, OnOk, IsErrOf};
 ghost use Rattle.std.specs.Option.{option_to_list};
-ghost use Rattle.spool_device.specs.Disks.{grow_last};
-ghost use Rattle.spool_device.specs.Crashes.{Appended, LeavesOnly};
+ghost use Rattle.spool.specs.Disks.{grow_last};
+ghost use Rattle.spool.specs.Crashes.{Appended, LeavesOnly};
 ghost use Rattle.spool.specs.Settled.{IsSettled, IsSame, Grows, grown_by};
 ghost use Rattle.spool.specs.declared.state.Segment.{Segment};
 
-use crate::SpoolError;
 use crate::synced::{append_synced, create_synced};
+use crate::{Device, SpoolError};
 use gzip::CrcTable;
-use spool_device::Device;
 use std::alloc::{AllocError, Global};
 
 /// Numbers of files are below this.

@@ -1,10 +1,9 @@
 //! Calls of a device, each with the sync after it.
 ghost use Rattle.std.specs.Prelude.{◌≡◌, ℕ, ◌^◌, ◌<◌, ◌≤◌, List, [], ◌∷◌, ◌++◌, drop, OnOk, IsErrOf};
-ghost use Rattle.spool_device.specs.Disks.{SpoolFile, new_file, grow_last};
-ghost use Rattle.spool_device.specs.Crashes.{Created, Appended, Removed, Only, LeavesOnly};
+ghost use Rattle.spool.specs.Disks.{SpoolFile, new_file, grow_last};
+ghost use Rattle.spool.specs.Crashes.{Created, Appended, Removed, Only, LeavesOnly};
 
-use crate::SpoolError;
-use spool_device::Device;
+use crate::{Device, SpoolError};
 
 /// Makes a file, and syncs.
 pub(crate) fn create_synced<D: Device>(device: &mut D, number: u64) -> Result<(), SpoolError>

@@ -2,7 +2,7 @@
 //! fails once it has done so many calls.
 ghost use Rattle.std.specs.Prelude.{◌≡◌, ◌<◌, ◌^◌, [], All, IfOk};
 
-use spool_device::{Device, DeviceError, MemoryFile};
+use spool::{Device, DeviceError, MemoryFile};
 use std::alloc::Global;
 
 /// The device.

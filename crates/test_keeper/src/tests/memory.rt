@@ -6,7 +6,7 @@ use crate::tests::parts::{FIRST, Relay, SECOND, amounts, config};
 use relay_keeper::{Holdings, Naming, RelayBlank, Tried};
 use relay_service::{BodyKeeper, KeepFault, Loss, Report};
 use retry_core::{Cause, Next, Outcome};
-use spool_device::MemoryDevice;
+use spool::MemoryDevice;
 use std::alloc::Global;
 use std::marker::Brand;
 use std::process::Abort;

@@ -14,8 +14,7 @@ use relay_keeper::{
 use relay_service::{Amounts, BodyKeeper, KeepFault};
 use retry_core::{Fate, Next, Outcome};
 use span_exporter::MemoryExporter;
-use spool::{Spool, SpoolError};
-use spool_device::Device;
+use spool::{Device, Spool, SpoolError};
 use std::alloc::Global;
 use std::process::Abort;
 use std::sync::{Arc, Mutex, Wait};

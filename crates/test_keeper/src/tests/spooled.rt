@@ -6,7 +6,7 @@ use crate::tests::parts::{FIRST, Relay, SECOND, amounts, config, opened};
 use relay_keeper::{Holdings, Naming, RelayBlank, Tried};
 use relay_service::{Amounts, BodyKeeper, KeepFault};
 use retry_core::{Next, Outcome};
-use spool_device::{MemoryDevice, MemoryFile};
+use spool::{MemoryDevice, MemoryFile};
 use std::alloc::Global;
 use std::marker::Brand;
 use std::process::Abort;

@@ -6,7 +6,7 @@ use crate::tests::parts::{Digits, Relay, amounts, config, keep, numbered, sent_i
 use relay_keeper::{Accounted, Naming, RelayBlank, RelaySender};
 use relay_service::BodyKeeper;
 use span_exporter::MemoryExporter;
-use spool_device::MemoryDevice;
+use spool::MemoryDevice;
 use std::alloc::Global;
 use std::marker::Brand;
 use std::process::Abort;

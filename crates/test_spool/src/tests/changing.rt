@@ -1,7 +1,7 @@
 //! A device in memory whose first file changes once a spool has it open.
 ghost use Rattle.std.specs.Prelude.{◌<◌, ◌^◌, [], All, IfOk};
 
-use spool_device::{Device, DeviceError, MemoryFile};
+use spool::{Device, DeviceError, MemoryFile};
 use std::alloc::{AllocError, Global};
 
 /// What happens to the bytes of a file.

@@ -4,8 +4,7 @@ ghost use Rattle.spool.specs.Settled.{IsSettled};
 
 use crate::tests::equal::assert_equal;
 use crate::tests::files::meaning;
-use spool::{Spool, SpoolError};
-use spool_device::{Device, MemoryDevice, MemoryFile};
+use spool::{Device, MemoryDevice, MemoryFile, Spool, SpoolError};
 use std::alloc::Global;
 
 /// Puts a body.

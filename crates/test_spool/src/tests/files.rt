@@ -3,8 +3,7 @@ ghost use Rattle.std.specs.Prelude.{◌≡◌, IfOk};
 ghost use Rattle.spool.specs.Settled.{IsSettled};
 
 use crate::tests::equal::assert_equal;
-use spool::{Opened, Spool, SpoolError, WaitingBodies};
-use spool_device::{Device, MemoryDevice, MemoryFile};
+use spool::{Device, MemoryDevice, MemoryFile, Opened, Spool, SpoolError, WaitingBodies};
 use std::alloc::{AllocError, Global};
 
 /// The record of the body 7, 8, with the CRC-32 of zlib.

@@ -2,8 +2,7 @@
 use crate::tests::crashes::put_one;
 use crate::tests::equal::assert_equal;
 use crate::tests::files::{listed, opened};
-use spool::SpoolError;
-use spool_files::SpoolFolder;
+use spool::{SpoolError, SpoolFolder};
 use std::fs;
 
 /// The folder, where the test runs.

@@ -2,8 +2,7 @@
 use crate::tests::crashes::put_one;
 use crate::tests::equal::assert_equal;
 use crate::tests::files::{FIRST, NOTE, SECOND, lasting, opened};
-use spool::SpoolError;
-use spool_device::MemoryFile;
+use spool::{MemoryFile, SpoolError};
 use std::alloc::Global;
 
 /// The answers to two puts where a spool may have so many bytes, and how many it has then.

@@ -1,6 +1,6 @@
 use Rattle.std.proofs.Common.{◌≡◌, ℕ, ◌+◌, length, refl, sym, ◌∙◌, cond}
 use Rattle.std.specs.Prelude.{◌==◌}
-use Rattle.spool_device.specs.Disks.{SpoolFile}
+use Rattle.spool.specs.Disks.{SpoolFile}
 use Rattle.spool.specs.Records.{contents, rest, bodies}
 use Rattle.spool.specs.Settled.{segment_of}
 use Rattle.spool.proofs.SurveyLaws.{end-found}

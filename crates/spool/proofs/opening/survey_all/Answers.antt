@@ -2,7 +2,7 @@ use Rattle.std.proofs.Common.{sym, ap, ◌∙◌, ◌≡◌, ◌+◌, []}
 use Rattle.std.proofs.Common.{take, get_or, subst, rules}
 use Rattle.std.specs.Prelude.{slice_get, Some}
 use Rattle.std.proofs.lemmas.List.{take_more}
-use Rattle.spool_device.specs.Disks.{SpoolFile, Disk}
+use Rattle.spool.specs.Disks.{SpoolFile, Disk}
 use Rattle.spool.specs.Spools.{Rises}
 use Rattle.spool.specs.Surveys.{IsSurvey}
 use Rattle.spool.proofs.Moments.{then-same}

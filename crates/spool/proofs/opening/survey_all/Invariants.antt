@@ -1,7 +1,7 @@
 use Rattle.std.proofs.Common.{◌≡◌, ◌<◌, ◌^◌, take}
 use Rattle.std.specs.Prelude.{All}
-use Rattle.spool_device.specs.Disks.{file_numbers}
-use Rattle.spool_device.specs.Crashes.{LeavesOnly}
+use Rattle.spool.specs.Disks.{file_numbers}
+use Rattle.spool.specs.Crashes.{LeavesOnly}
 use Rattle.spool.specs.Surveys.{IsSurvey}
 use Rattle.spool.proofs.opening.survey_all.Given as goal
 

@@ -1,5 +1,5 @@
 use Rattle.std.proofs.Common.{refl}
-use Rattle.spool_device.specs.Crashes.{Created}
+use Rattle.spool.specs.Crashes.{Created}
 use Rattle.spool.specs.Settled.{IsSame}
 use Rattle.spool.proofs.Moments.{weaker}
 use Rattle.spool.proofs.StateLaws.{below-next, same-made, same-created, settled-made}

@@ -1,6 +1,6 @@
 use Rattle.std.proofs.Common.{◌≡◌, vec_len}
 use Rattle.std.specs.Prelude.{IsSome}
-use Rattle.spool_device.specs.Crashes.{LeavesOnly}
+use Rattle.spool.specs.Crashes.{LeavesOnly}
 use Rattle.spool.specs.Settled.{IsSettled, IsNoted, IsNoLarger}
 use Rattle.spool.proofs.state.Spool.remove_done.Given as goal
 

@@ -5,10 +5,10 @@ use Rattle.std.proofs.Common.{List, [], ◌∷◌, ◌++◌, length, arith, leng
 use Rattle.std.specs.Prelude.{Some, slice_get}
 use Rattle.std.proofs.lemmas.Bool.{cases_lt}
 use Rattle.std.proofs.lemmas.List.{append-nil, length-map}
-use Rattle.spool_device.specs.Disks.{SpoolFile, Disk, grown, grow_last}
-use Rattle.spool_device.specs.Crashes.{After, LeavesOnly}
-use Rattle.spool_device.specs.Memory.{files_view, past_view, moments, was_left}
-use Rattle.spool_device.specs.declared.memory.MemoryDevice.{MemoryDevice}
+use Rattle.spool.specs.Disks.{SpoolFile, Disk, grown, grow_last}
+use Rattle.spool.specs.Crashes.{After, LeavesOnly}
+use Rattle.spool.specs.Memory.{files_view, past_view, moments, was_left}
+use Rattle.spool.specs.declared.memory.MemoryDevice.{MemoryDevice}
 
 -- What grows is the newest file.
 pub grow-front : (more : List ℕ) (front : Disk) (last : SpoolFile)

@@ -1,6 +1,6 @@
 -- What a crash may leave of the files of a spool. (profile)
 use Rattle.std.specs.Prelude.{◌≡◌, ◌⊎◌, ℕ, ◌≤◌, List, [], ◌∷◌, ◌++◌, take, drop}
-use Rattle.spool_device.specs.Disks.{Disk, new_file, grow_last}
+use Rattle.spool.specs.Disks.{Disk, new_file, grow_last}
 
 -- ---- what is left of one call
 

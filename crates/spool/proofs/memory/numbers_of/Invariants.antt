@@ -1,8 +1,8 @@
 use Rattle.std.proofs.Common.{◌≡◌, ◌<◌, ◌^◌, take}
 use Rattle.std.specs.Prelude.{All}
-use Rattle.spool_device.specs.Disks.{file_numbers}
-use Rattle.spool_device.specs.Memory.{files_view}
-use Rattle.spool_device.proofs.memory.numbers_of.Given as goal
+use Rattle.spool.specs.Disks.{file_numbers}
+use Rattle.spool.specs.Memory.{files_view}
+use Rattle.spool.proofs.memory.numbers_of.Given as goal
 
 abbrev pub invariant-loop-file : goal.invariant-loop-file
 invariant-loop-file l = record {

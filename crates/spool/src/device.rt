@@ -1,8 +1,8 @@
 //! What keeps the files of a spool.
 ghost use Rattle.std.specs.Prelude.{◌≡◌, ℕ, ◌+◌, ◌^◌, ◌<◌, ◌≤◌, List, [], ◌∷◌, ◌++◌, length, drop};
 ghost use Rattle.std.specs.Prelude.{All, Some, slice_get, IfOk, OnOk};
-ghost use Rattle.spool_device.specs.Disks.{SpoolFile, new_file, grow_last, file_numbers};
-ghost use Rattle.spool_device.specs.Crashes.{Created, Appended, Removed, After, Only, LeavesOnly};
+ghost use Rattle.spool.specs.Disks.{SpoolFile, new_file, grow_last, file_numbers};
+ghost use Rattle.spool.specs.Crashes.{Created, Appended, Removed, After, Only, LeavesOnly};
 
 use crate::DeviceError;
 use std::alloc::Global;

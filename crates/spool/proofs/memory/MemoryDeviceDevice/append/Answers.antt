@@ -1,12 +1,12 @@
 use Rattle.std.proofs.Common.{refl, sym, ap, ◌∙◌, List, [], ◌∷◌, ◌++◌, ℕ, ◌/◌}
 use Rattle.std.proofs.Common.{length, arith}
 use Rattle.std.proofs.lemmas.List.{take_all}
-use Rattle.spool_device.specs.Disks.{grow_last}
-use Rattle.spool_device.specs.Crashes.{After, Appended}
-use Rattle.spool_device.specs.Memory.{files_view, past_view, was_left}
-use Rattle.spool_device.specs.declared.memory.MemoryFile.{MemoryFile}
-use Rattle.spool_device.proofs.MemoryLaws.{moved, still, after, grow-nothing}
-use Rattle.spool_device.proofs.memory.MemoryDeviceDevice.append.Goals as goal
+use Rattle.spool.specs.Disks.{grow_last}
+use Rattle.spool.specs.Crashes.{After, Appended}
+use Rattle.spool.specs.Memory.{files_view, past_view, was_left}
+use Rattle.spool.specs.declared.memory.MemoryFile.{MemoryFile}
+use Rattle.spool.proofs.MemoryLaws.{moved, still, after, grow-nothing}
+use Rattle.spool.proofs.memory.MemoryDeviceDevice.append.Goals as goal
 
 pub returns-in_err-begin-clause-crash : goal.returns-in_err-begin-clause-crash
 returns-in_err-begin-clause-crash c = λ _.

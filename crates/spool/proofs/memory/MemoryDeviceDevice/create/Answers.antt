@@ -1,10 +1,10 @@
 use Rattle.std.proofs.Common.{refl, ap, ◌∙◌, inl, inr, List, [], ◌∷◌, ◌++◌, ℕ}
 use Rattle.std.proofs.lemmas.List.{map-append}
-use Rattle.spool_device.specs.Crashes.{After, Created}
-use Rattle.spool_device.specs.Memory.{files_view, file_view, past_view, was_left}
-use Rattle.spool_device.specs.declared.memory.MemoryFile.{MemoryFile}
-use Rattle.spool_device.proofs.MemoryLaws.{moved, after}
-use Rattle.spool_device.proofs.memory.MemoryDeviceDevice.create.Goals as goal
+use Rattle.spool.specs.Crashes.{After, Created}
+use Rattle.spool.specs.Memory.{files_view, file_view, past_view, was_left}
+use Rattle.spool.specs.declared.memory.MemoryFile.{MemoryFile}
+use Rattle.spool.proofs.MemoryLaws.{moved, after}
+use Rattle.spool.proofs.memory.MemoryDeviceDevice.create.Goals as goal
 
 pub returns-clause-crash : goal.returns-clause-crash
 returns-clause-crash c = λ _.

@@ -1,7 +1,8 @@
 //! A folder of files.
 ghost use Rattle.std.specs.Prelude.{◌≡◌, ◌<◌, ◌^◌, [], All, IfOk, IfSome};
 
-use spool_device::{Device, DeviceError};
+use crate::state::MAX_NUMBER;
+use crate::{Device, DeviceError};
 use std::alloc::{AllocError, Global};
 use std::fs;
 use std::io::{self, Write};
@@ -11,9 +12,6 @@ const SUFFIX: &str = ".spool";
 
 /// How many digits a number has in a name.
 const DIGITS: usize = 20;
-
-/// Numbers are below this.
-const MAX_NUMBER: u64 = 1 << 63;
 
 /// A folder with the files of a spool. It holds a lock on the file `lock` in the folder, so that no
 /// other process opens the same spool.

@@ -1,9 +1,9 @@
 use Rattle.std.proofs.Common.{◌≡◌, sym, ap, ◌∙◌, List, [], ◌∷◌, ◌++◌, ℕ}
 use Rattle.std.proofs.lemmas.List.{map-append}
-use Rattle.spool_device.specs.Disks.{grow_last}
-use Rattle.spool_device.specs.Memory.{files_view, file_view}
-use Rattle.spool_device.proofs.MemoryLaws.{grow-front}
-use Rattle.spool_device.proofs.memory.grow.Goals as goal
+use Rattle.spool.specs.Disks.{grow_last}
+use Rattle.spool.specs.Memory.{files_view, file_view}
+use Rattle.spool.proofs.MemoryLaws.{grow-front}
+use Rattle.spool.proofs.memory.grow.Goals as goal
 
 pub returns-clause-ok : goal.returns-clause-ok
 returns-clause-ok c =

@@ -1,6 +1,6 @@
 //! Why a call of a device failed.
 ghost use Rattle.std.specs.Prelude.{◌≡◌};
-ghost use Rattle.spool_device.specs.declared.error.DeviceError.TheVariants.{Memory};
+ghost use Rattle.spool.specs.declared.device_error.DeviceError.TheVariants.{Memory};
 
 use std::alloc::{AllocError, AllocFailed};
 use thiserror::Error;

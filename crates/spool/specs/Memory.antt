@@ -1,9 +1,9 @@
 -- The files of a device in memory. (profile)
 use Rattle.std.specs.Prelude.{◌≡◌, ℕ, List, [], ◌∷◌, ◌++◌, map, Some, slice_get, Vec}
 use Rattle.std.specs.declared.alloc.Global.{Global}
-use Rattle.spool_device.specs.Disks.{SpoolFile, Disk}
-use Rattle.spool_device.specs.declared.memory.MemoryFile.{MemoryFile}
-use Rattle.spool_device.specs.declared.memory.MemoryDevice.{MemoryDevice}
+use Rattle.spool.specs.Disks.{SpoolFile, Disk}
+use Rattle.spool.specs.declared.memory.MemoryFile.{MemoryFile}
+use Rattle.spool.specs.declared.memory.MemoryDevice.{MemoryDevice}
 
 -- a file
 abbrev pub file_view : MemoryFile → SpoolFile

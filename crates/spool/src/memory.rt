@@ -1,8 +1,8 @@
 //! A device in memory, for tests: it fails after so many calls, and then a read returns what a
 //! crash would have left.
 ghost use Rattle.std.specs.Prelude.{◌≡◌, ◌++◌, [], ◌∷◌, length, OnOk, OnErr, IfOk, map, All, ◌<◌, ◌^◌};
-ghost use Rattle.spool_device.specs.Memory.{files_view, past_view, was_left};
-ghost use Rattle.spool_device.specs.Disks.{SpoolFile, grow_last, file_numbers};
+ghost use Rattle.spool.specs.Memory.{files_view, past_view, was_left};
+ghost use Rattle.spool.specs.Disks.{SpoolFile, grow_last, file_numbers};
 
 use crate::{Device, DeviceError};
 use std::alloc::{AllocError, Global};

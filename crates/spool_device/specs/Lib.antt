@@ -1,3 +1,0 @@
-pub mod Disks
-pub mod Crashes
-pub mod Memory
