@@ -11,7 +11,7 @@ use Rattle.std.proofs.lemmas.List.Elements.{filter-append}
 use Rattle.model_desk.specs.Retries.{Fate, Next, fate_of}
 use Rattle.model_body.specs.Histories.{Turn, idle, is_out, again, ended_count}
 use Rattle.model_body.specs.Desks.{BodyDesk}
-use Rattle.body_sending.specs.Steps.{Notes, NotesFate}
+use Rattle.relay_queue.specs.Steps.{Notes, NotesFate}
 use Rattle.spool.specs.Spools.{numbered_from}
 use Rattle.body_keeping.specs.Fronts.{AreFirst, BeginWith}
 use Rattle.body_keeping.specs.Kept.{AdmitsFirst}

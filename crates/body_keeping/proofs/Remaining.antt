@@ -4,7 +4,7 @@ use Rattle.std.proofs.Common.{List, [], ◌∷◌, ◌++◌, length, drop, arith
 use Rattle.std.specs.Prelude.{nat_le, Option, Some, None, IfSome, IsSome, Vec}
 use Rattle.std.specs.List.{enumerate_from}
 use Rattle.std.proofs.lemmas.List.Elements.{filter-append}
-use Rattle.body_desk.specs.Bodies.{bodies_view}
+use Rattle.relay_queue.specs.Bodies.{bodies_view}
 use Rattle.spool.specs.Disks.{Disk}
 use Rattle.spool.specs.Spools.{AreRising, done_to, next_number, numbered_from, waiting}
 use Rattle.spool.specs.Settled.{IsSettled, device_of}

@@ -6,7 +6,7 @@ use Rattle.model_desk.specs.Retries.{Fate, Next, fate_of}
 use Rattle.model_body.specs.Histories as events
 use Rattle.model_body.specs.Histories.{BodyEvent}
 use Rattle.model_body.specs.Desks.{BodyDesk, Does}
-use Rattle.body_sending.specs.Steps.{Notes, NotesFate}
+use Rattle.relay_queue.specs.Steps.{Notes, NotesFate}
 use Rattle.spool.specs.Disks.{Disk}
 use Rattle.spool.specs.Spools.{AreRising, numbered_from}
 use Rattle.spool.specs.Settled.{IsSettled}

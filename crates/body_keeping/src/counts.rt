@@ -2,7 +2,7 @@
 ghost use Rattle.std.specs.Prelude.{◌≡◌};
 ghost use Rattle.body_keeping.specs.Kept.{with_attempt, with_desk, with_ended, with_received};
 
-use body_desk::BodyCounts;
+use relay_queue::BodyCounts;
 
 /// Counts of what was done. A count stops at its greatest number.
 #[derive(Clone, Copy, Debug, Default, PartialEq, Eq)]

@@ -2,8 +2,7 @@
 ghost use Rattle.std.specs.Prelude.{◌≤◌, IfOk, length};
 
 use crate::keeping::EndedBodies;
-use body_desk::is_loss;
-use body_names::{LostSink, name_lost};
+use relay_queue::{LostSink, is_loss, name_lost};
 use relay_service::{Loss, LostSpan};
 use retry_core::Fate;
 use std::alloc::{AllocError, Global};

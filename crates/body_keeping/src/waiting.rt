@@ -1,13 +1,13 @@
 //! What is done at a spool, where it is there.
 ghost use Rattle.std.specs.Prelude.{◌≡◌, ◌≢◌, ◌+◌, ◌^◌, ◌<◌, [], IfOk, IfSome, IsErrOf, IsNone};
 ghost use Rattle.std.specs.Prelude.{IsSome, OnErr, OnOk, false, length};
-ghost use Rattle.body_desk.specs.Bodies.{bodies_view};
+ghost use Rattle.relay_queue.specs.Bodies.{bodies_view};
 ghost use Rattle.spool.specs.Spools.{numbered_from, waiting};
 ghost use Rattle.spool.specs.Settled.{IsSettled, device_of};
 ghost use Rattle.body_keeping.specs.Fronts.{BeginWith, SpoolLeaves, spool_next, spool_waiting};
 ghost use Rattle.body_keeping.specs.Kept.{AdmitsFirst, AreFull, LeftByNotes, LeftByPuts, PutsAll};
 
-use body_desk::{AdmitFault, BodyDesk};
+use relay_queue::{AdmitFault, BodyDesk};
 use relay_service::KeepFault;
 use spool::{Device, Spool, SpoolError, WaitingBodies};
 use std::alloc::Global;

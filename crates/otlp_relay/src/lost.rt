@@ -2,7 +2,7 @@
 
 use crate::failure::Failure;
 use crate::names::LostLines;
-use body_names::LostSink;
+use relay_queue::LostSink;
 use retry_core::Fate;
 use std::alloc::Global;
 use std::fs::File;

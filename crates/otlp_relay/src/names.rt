@@ -5,7 +5,7 @@ ghost use Rattle.hex.specs.Hex.{encode_lower};
 ghost use Rattle.retry_core.specs.Retries.{fate_view};
 ghost use Rattle.otlp_relay.specs.Lines.{TakesLine, lost_line, reason_word};
 
-use body_names::LostSink;
+use relay_queue::LostSink;
 use retry_core::Fate;
 use std::io::{self, Write};
 use std::marker::Model;

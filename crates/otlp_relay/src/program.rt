@@ -16,12 +16,11 @@ use crate::sending::Sending;
 use crate::serving::{Relay, failure_of, serve};
 use crate::settings::{config_of, enough_of, max_body_of, sends_of, settings_of, stop_ms_of};
 use crate::told::Told;
-use body_names::LostSink;
-use body_sending::BodySender;
 use http_peers::{Dated, Peers, listen};
 use relay_keeper::{
     Closer, Keeping, Naming, Poster, RelayBlank, RelayParts, RelaySender, SharedKeeper,
 };
+use relay_queue::{BodySender, LostSink};
 use relay_service::{BodyKeeper, Hosts, NoPieces, RelayService};
 use spool::{SpoolError, SpoolFolder};
 use std::alloc::Global;

@@ -3,9 +3,8 @@ ghost use Rattle.std.specs.Prelude.{◌≡◌, ◌≤◌, ◌*◌, ◌-◌, min}
 
 use crate::args::RelayArgs;
 use crate::keeping::SEGMENT_BYTES;
-use body_desk::BodyConfig;
-use body_sending::SendConfig;
 use http_peers::Settings;
+use relay_queue::{BodyConfig, SendConfig};
 use retry_core::RetryConfig;
 
 /// The bytes of a MiB.

@@ -5,10 +5,10 @@ use Rattle.std.specs.Prelude.{Result, Ok, Err, OnOk}
 use Rattle.std.specs.Result.{is_err}
 use Rattle.model_desk.specs.Retries.{Next, Outcome}
 use Rattle.model_body.specs.Names.{LostSpan}
-use Rattle.body_names.specs.Named as named
+use Rattle.relay_queue.specs.Named as named
 use Rattle.span_exporter.specs.Handed.{Handed, Gains, handing}
-use Rattle.body_sending.specs.Senders.{Sender, has_batch, names_after, to_send}
-use Rattle.body_sending.specs.Steps.{Attempts, IsJudged}
+use Rattle.relay_queue.specs.Senders.{Sender, has_batch, names_after, to_send}
+use Rattle.relay_queue.specs.Steps.{Attempts, IsJudged}
 use Rattle.relay_keeper.specs.Accounts.{Said, sends, sent_in}
 use Rattle.relay_keeper.specs.Handlers.{Finishes, IsHandler, IsNoted, SendsInHand}
 

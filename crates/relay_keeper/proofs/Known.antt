@@ -5,9 +5,9 @@ use Rattle.std.specs.Prelude.{Option, Some, None, sum_by}
 use Rattle.model_desk.specs.Retries.{Fate, Next, fate_of}
 use Rattle.model_body.specs.Histories.{Turn, idle, is_out, again, joined}
 use Rattle.model_body.specs.Desks.{BodyDesk, IsNew, IsNext}
-use Rattle.body_desk.specs.Bodies.{MayTake}
-use Rattle.body_sending.specs.Senders.{Sender, to_send}
-use Rattle.body_sending.specs.Steps.{Notes, NotesFate, Takes, next_number, attempts_before}
+use Rattle.relay_queue.specs.Bodies.{MayTake}
+use Rattle.relay_queue.specs.Senders.{Sender, to_send}
+use Rattle.relay_queue.specs.Steps.{Notes, NotesFate, Takes, next_number, attempts_before}
 use Rattle.account_book.specs.Accounts.{Replaces}
 use Rattle.body_keeping.specs.Kept.{Admits, Kept}
 use Rattle.relay_keeper.specs.Accounts.{Said, Sent, posts, sends, closes, posted_in, sent_in}

@@ -3,7 +3,7 @@ use Rattle.std.proofs.Common.{◌≡◌, ◌∙◌, ap, sym, arith, zero, suc, �
 use Rattle.std.proofs.Common.{◌∷◌, ◌++◌, append_assoc, length}
 use Rattle.std.specs.Prelude.{Option, IfSome, Vec}
 use Rattle.std.specs.List.{AllByRecursion, enumerate_from, remove, slice_index_or}
-use Rattle.body_desk.specs.Bodies.{bodies_view}
+use Rattle.relay_queue.specs.Bodies.{bodies_view}
 use Rattle.spool.specs.Disks.{Disk}
 use Rattle.spool.specs.Settled.{IsSettled}
 use Rattle.spool.specs.declared.state.Spool.{Spool}

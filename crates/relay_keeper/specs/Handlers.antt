@@ -3,14 +3,14 @@ use Rattle.std.specs.Prelude.{◌≡◌, ◌≢◌, ◌⊎◌, ℕ, true, false,
 use Rattle.std.specs.Prelude.{Option, Some, None, ◌+◌}
 use Rattle.model_desk.specs.Retries.{Next, Outcome, abandoned}
 use Rattle.model_body.specs.Names.{LostSpan, lost_names}
-use Rattle.body_names.specs.Named as named
+use Rattle.relay_queue.specs.Named as named
 use Rattle.model_body.specs.Histories.{is_out, again, joined}
 use Rattle.span_exporter.specs.Handed.{Handed, Gains, handing}
 use Rattle.retry_core.specs.Retries.{outcome_view}
-use Rattle.body_sending.specs.Senders.{Sender, to_send, to_judge, has_batch, is_pending}
-use Rattle.body_sending.specs.Senders.{capped_32, forgotten, names_after}
-use Rattle.body_sending.specs.Steps.{IsJudged, next_number, attempts_before}
-use Rattle.body_sending.specs.Senders.{early_at}
+use Rattle.relay_queue.specs.Senders.{Sender, to_send, to_judge, has_batch, is_pending}
+use Rattle.relay_queue.specs.Senders.{capped_32, forgotten, names_after}
+use Rattle.relay_queue.specs.Steps.{IsJudged, next_number, attempts_before}
+use Rattle.relay_queue.specs.Senders.{early_at}
 use Rattle.relay_keeper.specs.declared.sender.Tried.{Tried}
 use Rattle.relay_keeper.specs.declared.sender.Tried.TheVariants as tried
 use Rattle.relay_keeper.specs.Accounts.{Said, Sent, sends, closes, sent_in, taken_from}

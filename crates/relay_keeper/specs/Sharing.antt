@@ -1,7 +1,7 @@
 -- What the fields of what the server's thread keeps bodies with show, and what is true of them.
 use Rattle.std.specs.Prelude.{◌≡◌, ◌⊎◌, ℕ, ◌+◌, ◌++◌, List, [], ◌∷◌, sum_by}
 use Rattle.spool.specs.Disks.{Disk}
-use Rattle.body_desk.specs.Bodies.{bodies_view}
+use Rattle.relay_queue.specs.Bodies.{bodies_view}
 use Rattle.relay_keeper.specs.Holds.{KeepsInHold}
 use Rattle.relay_keeper.specs.Together.{AreKept, AreReadable}
 use Rattle.relay_keeper.specs.Accounts.{posted_in, posts}

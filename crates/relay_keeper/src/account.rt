@@ -70,7 +70,7 @@ impl Change<SaidState, Snapshot<Vec<u8>>> for Posting {
 }
 
 impl Change<SaidState, Vec<Vec<u8>>> for Posting {
-    ghost use Rattle.body_desk.specs.Bodies.{bodies_view};
+    ghost use Rattle.relay_queue.specs.Bodies.{bodies_view};
     ghost use Rattle.relay_keeper.specs.Accounts.{after_posts};
 
     ghost after = { λ said bodies. after_posts (bodies_view bodies.items) said };
@@ -126,7 +126,7 @@ impl<D: Device> Change<SaidState, Snapshot<Keeping<D>>> for Returning {
 pub(crate) struct GivingUp;
 
 impl Change<SaidState, Snapshot<Vec<Vec<u8>>>> for GivingUp {
-    ghost use Rattle.body_desk.specs.Bodies.{bodies_view};
+    ghost use Rattle.relay_queue.specs.Bodies.{bodies_view};
     ghost use Rattle.relay_keeper.specs.Accounts.{after_closing};
 
     ghost after = { λ said bodies. after_closing (bodies_view bodies.value.items) said };

@@ -3,9 +3,9 @@ ghost use Rattle.std.specs.Prelude.{◌≡◌, ◌≤◌, ◌∷◌, [], IfOk, I
 ghost use Rattle.std.specs.Prelude.{length, true, false, ◌||◌};
 ghost use Rattle.model_body.specs.Histories.{idle, is_out};
 ghost use Rattle.retry_core.specs.Retries.{next_view};
-ghost use Rattle.body_desk.specs.Bodies.{MayNotTake, bodies_view};
-ghost use Rattle.body_sending.specs.Senders.{has_batch, is_pending};
-ghost use Rattle.body_sending.specs.Steps.{IsJudged};
+ghost use Rattle.relay_queue.specs.Bodies.{MayNotTake, bodies_view};
+ghost use Rattle.relay_queue.specs.Senders.{has_batch, is_pending};
+ghost use Rattle.relay_queue.specs.Steps.{IsJudged};
 ghost use Rattle.spool.specs.Settled.{IsSettled};
 ghost use Rattle.body_keeping.specs.Kept.{Admits, Puts, kept_count, remaining_in};
 ghost use Rattle.relay_keeper.specs.Accounts.{after_posts, closed_in, closes, new_sent, posted_in};
@@ -22,7 +22,7 @@ use crate::account::{
 use crate::holdings::Holdings;
 use account_book::{Book, Naming};
 use body_keeping::{EndedBodies, EndedSpans, Keeping};
-use body_sending::BodySender;
+use relay_queue::BodySender;
 use relay_service::{KeepFault, LostSpan, Report};
 use retry_core::Next;
 use spool::{Device, Spool, SpoolError};

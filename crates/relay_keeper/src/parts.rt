@@ -1,7 +1,7 @@
 //! What is kept for several threads, and those who share it.
 ghost use Rattle.std.specs.Prelude.{◌≡◌, [], None, false};
 ghost use Rattle.model_body.specs.Desks.{new_desk};
-ghost use Rattle.body_sending.specs.Senders.{has_batch};
+ghost use Rattle.relay_queue.specs.Senders.{has_batch};
 ghost use Rattle.body_keeping.specs.Kept.{remaining_in};
 ghost use Rattle.relay_keeper.specs.Accounts.{new_sent, started_with};
 
@@ -12,7 +12,7 @@ use crate::keeper::Poster;
 use crate::sender::RelaySender;
 use account_book::Naming;
 use body_keeping::Keeping;
-use body_sending::BodySender;
+use relay_queue::BodySender;
 use spool::Device;
 use std::snapshot::Snapshot;
 

@@ -1,9 +1,9 @@
 //! What the sender's thread does. Each call takes the lock for what is done at the bodies alone.
 ghost use Rattle.std.specs.Prelude.{◌≡◌, IfOk, IfSome, IsNone, OnErr, true, false};
 ghost use Rattle.retry_core.specs.Retries.{next_view};
-ghost use Rattle.body_names.specs.Named.{Gains};
-ghost use Rattle.body_desk.specs.Bodies.{bodies_view};
-ghost use Rattle.body_sending.specs.Senders.{has_batch, is_pending, names_after, to_send};
+ghost use Rattle.relay_queue.specs.Named.{Gains};
+ghost use Rattle.relay_queue.specs.Bodies.{bodies_view};
+ghost use Rattle.relay_queue.specs.Senders.{has_batch, is_pending, names_after, to_send};
 ghost use Rattle.spool.specs.Settled.{IsSettled};
 ghost use Rattle.relay_keeper.specs.Accounts.{sends};
 ghost use Rattle.relay_keeper.specs.Handlers.{Attempted, Finishes, OnlyReads, Reads};
@@ -13,8 +13,7 @@ use crate::account::Account;
 use crate::accounted::Accounted;
 use account_book::Naming;
 use body_keeping::{EndedBodies, EndedSpans};
-use body_names::LostSink;
-use body_sending::{BodySender, name_ended};
+use relay_queue::{BodySender, LostSink, name_ended};
 use retry_core::{Fate, Next, Outcome};
 use span_exporter::Exporter;
 use spool::{Device, Spool, SpoolError};

@@ -1,5 +1,5 @@
-//! Tests, over public calls alone, of how a relay hands its bodies on (`body_sending`). The crate
-//! has no items of its own.
+//! Tests, over public calls alone, of how a relay hands its bodies on (`relay_queue`). The crate has
+//! no items of its own.
 #![tactic(auto)]
 
 #[cfg(test)]

@@ -1,6 +1,6 @@
 //! Small desks: what each call answers, and what is left.
 use crate::tests::equal::assert_equal;
-use body_desk::{AdmitFault, BodyConfig, BodyCounts, BodyDesk};
+use relay_queue::{AdmitFault, BodyConfig, BodyCounts, BodyDesk};
 use retry_core::Fate;
 use std::alloc::Global;
 use std::process::Abort;

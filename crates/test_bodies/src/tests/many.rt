@@ -1,7 +1,7 @@
 //! A large desk.
 use crate::tests::desk::admit;
 use crate::tests::equal::assert_equal;
-use body_desk::{BodyConfig, BodyDesk};
+use relay_queue::{BodyConfig, BodyDesk};
 use retry_core::Fate;
 use std::alloc::Global;
 use std::process::Abort;

@@ -1,6 +1,6 @@
 //! The names of the spans of bodies, which are written by hand.
 use crate::tests::equal::assert_equal;
-use body_names::{LostSink, name_lost};
+use relay_queue::{LostSink, name_lost};
 use retry_core::Fate;
 
 /// Counts the names that it is given, and keeps the first byte of each identifier as a digit, 0

@@ -1,6 +1,6 @@
 //! Each call for memory refused once.
 use crate::tests::equal::assert_equal;
-use body_desk::{AdmitFault, BodyConfig, BodyDesk};
+use relay_queue::{AdmitFault, BodyConfig, BodyDesk};
 use std::alloc::Allocator;
 use test_support::FailingAllocator;
 

@@ -3,14 +3,12 @@ ghost use Rattle.std.specs.Prelude.{◌≡◌, IfOk, IfSome, length};
 ghost use Rattle.model_body.specs.Names.{IsReadable, spans_in};
 ghost use Rattle.spool.specs.Settled.{IsSettled};
 
-use body_desk::BodyConfig;
-use body_names::LostSink;
-use body_sending::{BodySender, SendConfig};
 use post_body::read_content;
 use relay_keeper::{
     Accounted, Closer, Holdings, Keeping, Naming, RelayBlank, RelayParts, RelaySender,
     SharedKeeper, Tried,
 };
+use relay_queue::{BodyConfig, BodySender, LostSink, SendConfig};
 use relay_service::{Amounts, BodyKeeper, KeepFault};
 use retry_core::{Fate, Next, Outcome};
 use span_exporter::MemoryExporter;

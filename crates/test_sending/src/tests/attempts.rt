@@ -4,7 +4,7 @@ use crate::tests::fixture::{
     Digits, Picky, SECOND, admit, admit_all, body_of, config, counts, desk_of, memory, no_names,
     step,
 };
-use body_sending::{BodySender, name_ended};
+use relay_queue::{BodySender, name_ended};
 use retry_core::{Cause, Fate, Next, Outcome, RetryAfter};
 use span_exporter::MemoryExporter;
 use std::alloc::Global;

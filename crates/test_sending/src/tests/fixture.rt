@@ -1,9 +1,7 @@
 //! What the tests share: bodies by hand, a sink, exporters, and a relay of these parts.
 use crate::tests::equal::assert_equal;
-use body_desk::{AdmitFault, BodyConfig, BodyDesk};
-use body_names::LostSink;
-use body_sending::{BodySender, SendConfig};
 use otlp_ids::OutOfMemory;
+use relay_queue::{AdmitFault, BodyConfig, BodyDesk, BodySender, LostSink, SendConfig};
 use retry_core::{Fate, Next, Outcome, RetryConfig};
 use span_exporter::{Exporter, MemoryExporter};
 use std::alloc::Global;

@@ -1,7 +1,7 @@
 //! A large desk.
 use crate::tests::equal::assert_equal;
 use crate::tests::fixture::{Picky, admit, body_of, config, counts, desk_of, no_names, step};
-use body_sending::BodySender;
+use relay_queue::BodySender;
 
 /// How many bodies there are.
 const MANY: u64 = 10_000;

@@ -1,11 +1,10 @@
 //! Each call for memory refused once.
 ghost use Rattle.std.specs.Prelude.{◌≡◌};
-ghost use Rattle.body_sending.specs.Senders.{to_send};
+ghost use Rattle.relay_queue.specs.Senders.{to_send};
 
 use crate::tests::equal::assert_equal;
 use crate::tests::fixture::{body_of, no_names};
-use body_desk::{BodyConfig, BodyDesk};
-use body_sending::{BodySender, SendConfig};
+use relay_queue::{BodyConfig, BodyDesk, BodySender, SendConfig};
 use retry_core::{Next, Outcome};
 use span_exporter::MemoryExporter;
 use std::alloc::Allocator;

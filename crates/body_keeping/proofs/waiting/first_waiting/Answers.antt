@@ -1,5 +1,5 @@
 use Rattle.std.proofs.Common.{◌≡◌, ◌∙◌, [], refl, ap, arith, length}
-use Rattle.body_desk.specs.Bodies.{bodies_view}
+use Rattle.relay_queue.specs.Bodies.{bodies_view}
 use Rattle.spool.specs.Settled.{device_of}
 use Rattle.body_keeping.proofs.Waits.{all-waits, found-begins, nil-items, none-found}
 use Rattle.body_keeping.proofs.Waits.{none-waits}

@@ -1,5 +1,5 @@
 use Rattle.std.proofs.Common.{◌∙◌, ◌++◌, ap, subst}
-use Rattle.body_desk.specs.Bodies.{bodies_view}
+use Rattle.relay_queue.specs.Bodies.{bodies_view}
 use Rattle.body_keeping.specs.Kept.{PutsAll, remaining_in}
 use Rattle.body_keeping.proofs.Putting.{on-ok, puts-one}
 use Rattle.body_keeping.proofs.keeping.Keeping.put.Goals as goal

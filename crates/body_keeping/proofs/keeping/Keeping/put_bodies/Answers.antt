@@ -1,5 +1,5 @@
 use Rattle.std.proofs.Common.{◌≡◌, ◌∙◌, ◌++◌, ap, arith, refl, subst}
-use Rattle.body_desk.specs.Bodies.{bodies_view}
+use Rattle.relay_queue.specs.Bodies.{bodies_view}
 use Rattle.spool.specs.Spools.{numbered_from}
 use Rattle.body_keeping.specs.Fronts.{bodies_of, spool_waiting}
 use Rattle.body_keeping.specs.Kept.{Kept, remaining_in}

@@ -1,7 +1,7 @@
 use Rattle.std.proofs.Common.{◌≡◌, ◌≢◌, ◌∙◌, ◌+◌, ◌^◌, ◌<◌, [], ap, arith, length, refl, subst, sym}
 use Rattle.std.specs.Prelude.{IsNone, Option}
 use Rattle.std.proofs.lemmas.List.{length-map}
-use Rattle.body_desk.specs.Bodies.{bodies_view}
+use Rattle.relay_queue.specs.Bodies.{bodies_view}
 use Rattle.spool.specs.Spools.{numbered_from}
 use Rattle.spool.specs.declared.giving.WaitingBodies.{WaitingBodies}
 use Rattle.body_keeping.specs.Fronts.{BeginWith, bodies_of, spool_waiting}

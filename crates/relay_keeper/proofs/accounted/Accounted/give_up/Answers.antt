@@ -1,5 +1,5 @@
 use Rattle.std.proofs.Common.{◌≡◌, ◌∙◌, ◌++◌, Some, ap, false, subst, sym, true}
-use Rattle.body_desk.specs.Bodies.{bodies_view}
+use Rattle.relay_queue.specs.Bodies.{bodies_view}
 use Rattle.body_keeping.specs.Kept.{Kept}
 use Rattle.body_keeping.proofs.Basics.{true-false}
 use Rattle.relay_keeper.specs.Accounts.{given_up}

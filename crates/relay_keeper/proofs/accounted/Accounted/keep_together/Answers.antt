@@ -1,5 +1,5 @@
 use Rattle.std.proofs.Common.{◌≡◌, ◌∙◌, ◌++◌, ap, subst, sym, true}
-use Rattle.body_desk.specs.Bodies.{bodies_view}
+use Rattle.relay_queue.specs.Bodies.{bodies_view}
 use Rattle.body_keeping.specs.Kept.{Kept, PutsAll, remaining_in}
 use Rattle.relay_keeper.specs.Agreement.{Agrees, IsInOrder}
 use Rattle.relay_keeper.proofs.Handled.{at-ok}

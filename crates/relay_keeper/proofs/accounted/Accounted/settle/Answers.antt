@@ -1,6 +1,6 @@
 use Rattle.std.proofs.Common.{◌≡◌, ◌∙◌, ap, inl, inr, subst, sym}
 use Rattle.retry_core.specs.Retries.{next_view}
-use Rattle.body_desk.specs.Bodies.{bodies_view}
+use Rattle.relay_queue.specs.Bodies.{bodies_view}
 use Rattle.body_keeping.specs.Kept.{Kept}
 use Rattle.body_keeping.proofs.Basics.{true-false}
 use Rattle.relay_keeper.specs.Accounts.{freed_from, noted_from, sent_in}

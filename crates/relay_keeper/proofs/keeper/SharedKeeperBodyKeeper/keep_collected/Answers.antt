@@ -1,5 +1,5 @@
 use Rattle.std.proofs.Common.{◌≡◌, ◌∙◌, ◌++◌, [], ap, inl, inr}
-use Rattle.body_desk.specs.Bodies.{bodies_view}
+use Rattle.relay_queue.specs.Bodies.{bodies_view}
 use Rattle.relay_keeper.specs.Accounts.{posted_in}
 use Rattle.relay_keeper.specs.Sharing.{Keeper}
 use Rattle.relay_keeper.proofs.keeper.SharedKeeperBodyKeeper.keep_collected.Goals as goal

@@ -1,6 +1,6 @@
 use Rattle.std.proofs.Common.{◌≡◌, ◌+◌, List, ap, arith, subst}
 use Rattle.std.specs.Prelude.{sum_by}
-use Rattle.body_desk.specs.Bodies.{bodies_view}
+use Rattle.relay_queue.specs.Bodies.{bodies_view}
 use Rattle.relay_keeper.specs.Accounts.{posted_in}
 use Rattle.relay_keeper.specs.Holds.{KeepsInHold}
 use Rattle.relay_keeper.specs.Sharing.{Keeper}

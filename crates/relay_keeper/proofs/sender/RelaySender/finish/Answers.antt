@@ -1,8 +1,8 @@
 use Rattle.std.proofs.Common.{subst}
 use Rattle.retry_core.specs.Retries.{next_view}
-use Rattle.body_desk.specs.Bodies.{bodies_view}
-use Rattle.body_names.specs.Named.{Gains}
-use Rattle.body_sending.specs.Senders.{names_after}
+use Rattle.relay_queue.specs.Bodies.{bodies_view}
+use Rattle.relay_queue.specs.Named.{Gains}
+use Rattle.relay_queue.specs.Senders.{names_after}
 use Rattle.relay_keeper.specs.Accounts.{sent_in}
 use Rattle.relay_keeper.specs.Handlers.{Finishes, Handler}
 use Rattle.relay_keeper.proofs.Handled.{finishes}

@@ -1,7 +1,0 @@
-use Rattle.std.proofs.Common.{rules}
-use Rattle.body_desk.proofs.Histories.{admitted_follows}
-use Rattle.body_desk.proofs.desk.BodyDesk.admit.Goals as goal
-
-pub returns-clause-history : goal.returns-clause-history
-returns-clause-history g c =
-    admitted_follows _ _ c.args.body.items (search rules) (search rules)

@@ -1,6 +1,0 @@
-use Rattle.std.proofs.Common.{rules}
-use Rattle.body_desk.proofs.Histories.{drained_follows}
-use Rattle.body_desk.proofs.desk.BodyDesk.drain.Goals as goal
-
-pub returns-clause-history : goal.returns-clause-history
-returns-clause-history g c = drained_follows _ _ (search rules)

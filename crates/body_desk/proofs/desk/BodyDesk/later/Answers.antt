@@ -1,6 +1,0 @@
-use Rattle.std.proofs.Common.{rules}
-use Rattle.body_desk.proofs.Histories.{later_follows}
-use Rattle.body_desk.proofs.desk.BodyDesk.later.Goals as goal
-
-pub returns-clause-history : goal.returns-clause-history
-returns-clause-history g c = later_follows _ _ c.requires (search rules)

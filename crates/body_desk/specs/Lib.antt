@@ -1,3 +1,0 @@
--- What contracts see of a desk of bodies.
-pub mod Bodies
-pub mod Inside

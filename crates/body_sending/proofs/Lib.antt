@@ -1,4 +1,0 @@
-pub mod Judged
-pub mod Stages
-pub mod Takes
-pub mod Named

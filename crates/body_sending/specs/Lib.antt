@@ -1,4 +1,0 @@
--- What contracts see of a sender of bodies.
-pub mod Senders
-pub mod Views
-pub mod Steps

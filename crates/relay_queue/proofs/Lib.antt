@@ -1,0 +1,9 @@
+pub mod Histories
+pub mod Lines
+pub mod Steps
+pub mod Walked
+pub mod Read
+pub mod Judged
+pub mod Stages
+pub mod Takes
+pub mod Named

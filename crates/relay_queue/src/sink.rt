@@ -1,0 +1,22 @@
+//! What the names of lost spans are given to.
+ghost use Rattle.std.specs.Prelude.{List, Option, [], ◌∷◌};
+ghost use Rattle.model_body.specs.Names.{LostSpan};
+ghost use Rattle.retry_core.specs.Retries.{fate_view};
+ghost use Rattle.relay_queue.specs.Named.{Gains, lost_span};
+
+use retry_core::Fate;
+
+/// What the names of lost spans are given to, one by one (profile).
+///
+/// An `impl` says by its ghost member `named` which names it was given, or that it doesn't say. No
+/// call can fail, and none takes memory that might be refused: a sink that writes or sends names
+/// keeps the error for a caller that asks.
+pub trait LostSink {
+    ghost named: { Self → Option (List LostSpan) };
+
+    /// Takes the name of a span that is lost: its trace id and its span id, as they were received,
+    /// of any length, and how the body that it is in ended.
+    fn take_lost(&mut self, trace: &[u8], span: &[u8], fate: Fate)
+        ensures { Gains (lost_span trace.now span.now (fate_view fate) ∷ [])
+            (named self.old) (named self.new) };
+}
