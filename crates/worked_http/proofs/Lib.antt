@@ -1,4 +1,0 @@
-pub mod ChunkParts
-pub mod Heads
-pub mod PlaceParts
-pub mod RequestHeads

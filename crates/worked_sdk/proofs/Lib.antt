@@ -1,0 +1,5 @@
+pub mod Histories
+pub mod ChunkParts
+pub mod Heads
+pub mod PlaceParts
+pub mod RequestHeads
