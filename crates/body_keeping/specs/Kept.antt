@@ -10,8 +10,8 @@ use Rattle.spool.specs.Spools.{HasNoRoom, LeftByNote, LeftByPut, numbered_from}
 use Rattle.spool.specs.Settled.{IsSettled, device_of, limit_of}
 use Rattle.spool.specs.declared.state.Spool.{Spool}
 use Rattle.body_keeping.specs.Fronts.{bodies_of, spool_next, spool_waiting}
-use Rattle.relay_service.specs.declared.stats.Amounts.{Amounts}
-use Rattle.relay_service.specs.declared.stats.Report.{Report}
+use Rattle.relay_queue.specs.declared.report.Amounts.{Amounts}
+use Rattle.relay_queue.specs.declared.report.Report.{Report}
 use Rattle.body_keeping.specs.declared.counts.Counts.{Counts}
 
 -- A desk shows what some events made of it, each of which was allowed.

@@ -20,8 +20,9 @@ ghost use Rattle.body_keeping.specs.Kept.{LeftByNotes, LeftByPuts, remaining_in,
 use crate::counts::Counts;
 use crate::names::{EndedSpans, copy_newest, keep_newest};
 use crate::waiting::{admit_first, find_waiting, next_of, note_into, put_into};
-use relay_queue::{AdmitFault, BodyConfig, BodyDesk, BodySender, Settled};
-use relay_service::{Amounts, KeepFault, LostSpan, Report};
+use relay_queue::{
+    AdmitFault, Amounts, BodyConfig, BodyDesk, BodySender, KeepFault, LostSpan, Report, Settled,
+};
 use retry_core::Next;
 use spool::{Device, Spool, SpoolError};
 use std::alloc::{AllocError, Global};

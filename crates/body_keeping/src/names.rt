@@ -2,8 +2,7 @@
 ghost use Rattle.std.specs.Prelude.{◌≤◌, IfOk, length};
 
 use crate::keeping::EndedBodies;
-use relay_queue::{LostSink, is_loss, name_lost};
-use relay_service::{Loss, LostSpan};
+use relay_queue::{Loss, LostSink, LostSpan, is_loss, name_lost};
 use retry_core::Fate;
 use std::alloc::{AllocError, Global};
 use std::collections::VecDeque;

@@ -7,8 +7,7 @@ ghost use Rattle.spool.specs.Settled.{IsSettled, device_of};
 ghost use Rattle.body_keeping.specs.Fronts.{BeginWith, SpoolLeaves, spool_next, spool_waiting};
 ghost use Rattle.body_keeping.specs.Kept.{AdmitsFirst, AreFull, LeftByNotes, LeftByPuts, PutsAll};
 
-use relay_queue::{AdmitFault, BodyDesk};
-use relay_service::KeepFault;
+use relay_queue::{AdmitFault, BodyDesk, KeepFault};
 use spool::{Device, Spool, SpoolError, WaitingBodies};
 use std::alloc::Global;
 

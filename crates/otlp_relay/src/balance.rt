@@ -1,7 +1,7 @@
 //! What became of all that was received, in a line.
 
 use crate::failure::Failure;
-use relay_service::{Amounts, Report};
+use relay_queue::{Amounts, Report};
 use std::io::{self, Write};
 
 /// Writes these amounts, after what they are of.

@@ -20,8 +20,8 @@ use http_peers::{Dated, Peers, listen};
 use relay_keeper::{
     Closer, Keeping, Naming, Poster, RelayBlank, RelayParts, RelaySender, SharedKeeper,
 };
-use relay_queue::{BodySender, LostSink};
-use relay_service::{BodyKeeper, Hosts, NoPieces, RelayService};
+use relay_queue::{BodyKeeper, BodySender, LostSink};
+use relay_service::{Hosts, NoPieces, RelayService};
 use spool::{SpoolError, SpoolFolder};
 use std::alloc::Global;
 use std::fs::File;

@@ -3,7 +3,8 @@
 use crate::failure::Failure;
 use crate::report::report;
 use http_peers::{Complaints, Dated, End, Peers, Round};
-use relay_service::{BodyKeeper, NoPieces, RelayService};
+use relay_queue::BodyKeeper;
+use relay_service::{NoPieces, RelayService};
 use std::alloc::Global;
 use std::io::Write;
 use std::net::Net;

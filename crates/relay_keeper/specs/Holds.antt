@@ -2,7 +2,7 @@
 use Rattle.std.specs.Prelude.{◌≡◌, ◌⊎◌, ℕ, ◌<◌, List, true, false}
 use Rattle.model_body.specs.Desks.{HasRoom, body_size}
 use Rattle.spool.specs.Disks.{Disk}
-use Rattle.relay_service.specs.declared.stats.Report.{Report}
+use Rattle.relay_queue.specs.declared.report.Report.{Report}
 use Rattle.body_keeping.specs.Kept.{Admits, IsFull, IsReport, Kept, PutsAmong}
 
 -- ---- bodies that are kept

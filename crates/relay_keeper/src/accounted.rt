@@ -22,8 +22,7 @@ use crate::account::{
 use crate::holdings::Holdings;
 use account_book::{Book, Naming};
 use body_keeping::{EndedBodies, EndedSpans, Keeping};
-use relay_queue::BodySender;
-use relay_service::{KeepFault, LostSpan, Report};
+use relay_queue::{BodySender, KeepFault, LostSpan, Report};
 use retry_core::Next;
 use spool::{Device, Spool, SpoolError};
 use std::alloc::{AllocError, Global};

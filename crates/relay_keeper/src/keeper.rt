@@ -9,7 +9,7 @@ use crate::closer::Closer;
 use crate::holdings::Holdings;
 use crate::sender::RelaySender;
 use account_book::Naming;
-use relay_service::{BodyKeeper, KeepFault, LostSpan, Report};
+use relay_queue::{BodyKeeper, KeepFault, LostSpan, Report};
 use spool::Device;
 use std::alloc::{AllocError, Global};
 use std::marker::Model;

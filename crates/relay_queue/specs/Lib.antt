@@ -6,5 +6,6 @@ pub mod Senders
 pub mod Views
 pub mod Steps
 -- What contracts see of names of lost spans.
+pub mod Lost
 pub mod Named
 pub mod Walk

@@ -12,6 +12,8 @@
 //! - [`name_lost`] goes through a lost body (opentelemetry-proto, trace_service.proto:
 //!   ExportTraceServiceRequest) field by field and gives the names of its spans to a [`LostSink`]. It
 //!   takes no memory, so that no name is lost for want of it.
+//! - A [`BodyKeeper`] is what a relay's service gives bodies to: it keeps them, as at a desk, and
+//!   says what became of them, by a [`Report`] and by each [`LostSpan`].
 #![tactic(auto)]
 
 mod bodies;
@@ -21,8 +23,11 @@ mod desk;
 mod ends;
 mod fate;
 mod fault;
+mod keeper;
 mod line;
+mod lost;
 mod names;
+mod report;
 mod send_config;
 mod sender;
 mod sink;
@@ -35,7 +40,10 @@ pub use desk::BodyDesk;
 pub use ends::name_ended;
 pub use fate::is_loss;
 pub use fault::AdmitFault;
+pub use keeper::{BodyKeeper, KeepFault};
+pub use lost::{Loss, LostSpan};
 pub use names::name_lost;
+pub use report::{Amounts, Report};
 pub use send_config::SendConfig;
 pub use sender::{BodySender, Settled};
 pub use sink::LostSink;

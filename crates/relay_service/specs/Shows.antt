@@ -16,7 +16,7 @@ use Rattle.relay_service.specs.Lost.{list_tokens}
 use Rattle.relay_service.specs.Stats.{metrics_text, stats_tokens}
 use Rattle.relay_service.specs.declared.route.Page.{Page}
 use Rattle.relay_service.specs.declared.route.Page.TheVariants as pages
-use Rattle.relay_service.specs.declared.stats.Report.{Report}
+use Rattle.relay_queue.specs.declared.report.Report.{Report}
 
 -- what a path names
 unfoldable pub page_of : List ℕ → Option Page

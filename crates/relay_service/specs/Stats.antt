@@ -4,8 +4,8 @@ use Rattle.std.specs.Prelude.{ℕ, List, [], ◌∷◌, ◌++◌, codes}
 use Rattle.json.specs.Token.{Token, begin_object, end_object, key}
 use Rattle.view_json.specs.Metrics.{metric_text}
 use Rattle.view_json.specs.Seen.{number_member}
-use Rattle.relay_service.specs.declared.stats.Amounts.{Amounts}
-use Rattle.relay_service.specs.declared.stats.Report.{Report}
+use Rattle.relay_queue.specs.declared.report.Amounts.{Amounts}
+use Rattle.relay_queue.specs.declared.report.Report.{Report}
 
 -- amounts, as the member with this name
 unfoldable pub amount_members : List ℕ → Amounts → List Token

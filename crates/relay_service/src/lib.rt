@@ -1,13 +1,12 @@
 //! A service of HTTP that receives spans by OTLP and keeps the bodies that carry them, until they
 //! are handed on: exports come by `POST /v1/traces` (OTLP Specification, "OTLP/HTTP").
 //!
-//! [`RelayService`] is what an `http_connection` calls. A [`BodyKeeper`] keeps the bodies: a post is
+//! [`RelayService`] is what an `http_connection` calls. A [`BodyKeeper`](relay_queue::BodyKeeper) keeps the bodies: a post is
 //! answered 200 only where it has kept the body's own bytes, and nothing is kept of any other post.
 //! By `GET` the service answers whether it is well, and what became of what it received, as the
 //! keeper says.
 #![tactic(auto)]
 
-mod keeper;
 mod lost;
 mod metrics;
 mod receive;
@@ -17,9 +16,8 @@ mod show;
 mod stats;
 
 pub use http_connection::reply::{Denial, Format, Hosts, Tallies};
-pub use keeper::{BodyKeeper, KeepFault};
-pub use lost::{Loss, LostSpan, write_lost};
+pub use lost::write_lost;
 pub use metrics::write_metrics;
 pub use route::{Page, route_of};
 pub use service::{NoPieces, RelayService};
-pub use stats::{Amounts, Report, write_stats};
+pub use stats::write_stats;

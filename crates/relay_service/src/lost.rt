@@ -1,38 +1,15 @@
-//! Spans that are lost, and how they are listed.
+//! How lost spans are listed.
 
 ghost use Rattle.std.specs.Prelude.{◌≡◌, ◌++◌, IfOk, OnOk, map};
 ghost use Rattle.std.specs.List.{flat_map};
 ghost use Rattle.json.specs.Lex.{tokens};
-ghost use Rattle.relay_service.specs.Lost.{list_tokens, loss_view, lost_tokens, lost_view};
-ghost use Rattle.relay_service.specs.Lost.{reason_of, status_member};
+ghost use Rattle.relay_queue.specs.Lost.{loss_view, lost_view};
+ghost use Rattle.relay_service.specs.Lost.{list_tokens, lost_tokens, reason_of, status_member};
 
 use json::Writer;
+use relay_queue::{Loss, LostSpan};
 use std::alloc::{AllocError, Allocator};
 use view_json::field::{begin, begin_list, end, end_list, push_hex, push_number, push_text};
-
-/// How a span was lost.
-#[derive(Clone, Copy, Debug, PartialEq, Eq)]
-pub enum Loss {
-    /// The collector refused its body for good, with this HTTP status.
-    Refused(u16),
-    /// What the collector replied could not be read.
-    BadReply,
-    /// No attempt succeeded, and it was the last one.
-    GivenUp,
-    /// Nobody hands it on any more.
-    Abandoned,
-}
-
-/// A span that is lost, by its name.
-#[derive(Debug, Drop)]
-pub struct LostSpan {
-    /// Its trace id, as it was received: 16 bytes, where it is a valid one.
-    pub trace: Vec<u8>,
-    /// Its span id, as it was received: 8 bytes, where it is a valid one.
-    pub span: Vec<u8>,
-    /// How it was lost.
-    pub loss: Loss,
-}
 
 /// Why a span was lost, in a word.
 fn reason_of(loss: Loss) -> &'static str

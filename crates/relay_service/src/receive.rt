@@ -11,7 +11,6 @@ ghost use Rattle.relay_service.specs.Receives.{is_failure};
 ghost use Rattle.http.specs.Request.{head_of};
 ghost use Rattle.http_connection.specs.Requests.{denial_format};
 
-use crate::keeper::{BodyKeeper, KeepFault};
 use bumpalo::Bump;
 use bytes::Bytes;
 use http::Request;
@@ -20,6 +19,7 @@ use http_connection::reply::{
 };
 use http_server::Response;
 use post_body::{Undecoded, Unread, content_in, is_above, read_content};
+use relay_queue::{BodyKeeper, KeepFault};
 use std::alloc::{AllocError, Allocator, Global};
 
 /// How many bytes the first block of an arena has for each byte of the content that is read there.

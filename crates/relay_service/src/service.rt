@@ -8,7 +8,6 @@ ghost use Rattle.http_connection.specs.Tallies.{MOST};
 ghost use Rattle.relay_service.specs.Serves.{Answers, HasAnswered, failed_of, hosts_of, keeper_of};
 ghost use Rattle.relay_service.specs.Serves.{max_body_of, tally_of};
 
-use crate::keeper::BodyKeeper;
 use crate::receive::{collect, either, is_failure, receive};
 use crate::show::Viewer;
 use bytes::Bytes;
@@ -19,6 +18,7 @@ use http_connection::reply::{
 };
 use http_connection::{Gathers, Pieces, Refusal, Service};
 use http_server::Response;
+use relay_queue::BodyKeeper;
 use std::alloc::{AllocError, Global};
 
 /// The rest of an answer that is whole: nothing.

@@ -9,18 +9,18 @@ ghost use Rattle.relay_service.specs.Stats.{metrics_text};
 ghost use Rattle.http_connection.specs.declared.reply.format.Format.TheVariants as formats;
 ghost use Rattle.relay_service.specs.declared.route.Page.TheVariants as pages;
 
-use crate::keeper::BodyKeeper;
 use crate::lost::write_lost;
 use crate::metrics::write_metrics;
 use crate::receive::either;
 use crate::route::{Page, route_of};
-use crate::stats::{Report, write_stats};
+use crate::stats::write_stats;
 use bytes::Bytes;
 use http::{Request, StatusCode};
 use http_connection::reply::{
     Denial, Format, denial_format, fill_denial, fill_page, is_read, path_of,
 };
 use http_server::Response;
+use relay_queue::{BodyKeeper, Report};
 use std::alloc::{AllocError, Global};
 
 /// So many lost spans are listed at most. (profile)

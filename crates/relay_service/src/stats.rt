@@ -1,40 +1,13 @@
-//! What became of what was received, and how it is shown to programs.
+//! How it is shown to programs what became of what was received.
 
 ghost use Rattle.std.specs.Prelude.{◌≡◌, ◌++◌, IfOk, OnOk};
 ghost use Rattle.json.specs.Lex.{tokens};
 ghost use Rattle.relay_service.specs.Stats.{amount_members, stats_tokens};
 
 use json::Writer;
+use relay_queue::{Amounts, Report};
 use std::alloc::{AllocError, Allocator};
 use view_json::field::{begin, begin_member, end, push_number};
-
-/// How many were received, and what became of them.
-#[derive(Clone, Copy, Debug, Default, PartialEq, Eq)]
-pub struct Amounts {
-    /// How many were received: their posts were answered 200.
-    pub received: u64,
-    /// How many of them are kept: they wait, or are being handed on.
-    pub kept: u64,
-    /// How many of them a collector took.
-    pub delivered: u64,
-    /// How many of them are lost.
-    pub lost: u64,
-}
-
-/// What became of what a keeper kept.
-#[derive(Clone, Copy, Debug, Default, PartialEq, Eq)]
-pub struct Report {
-    /// The bodies.
-    pub bodies: Amounts,
-    /// Their spans.
-    pub spans: Amounts,
-    /// How many bytes the bodies take that are kept.
-    pub waiting_bytes: u64,
-    /// How often bodies were sent to a collector, with or without success.
-    pub attempts: u64,
-    /// Whether what keeps bodies has failed, as a disk may.
-    pub has_failed: bool,
-}
 
 /// Writes amounts.
 #[tactic(auto, unfolding(crate::specs::Stats::amount_members))]

@@ -8,8 +8,7 @@ use relay_keeper::{
     Accounted, Closer, Holdings, Keeping, Naming, RelayBlank, RelayParts, RelaySender,
     SharedKeeper, Tried,
 };
-use relay_queue::{BodyConfig, BodySender, LostSink, SendConfig};
-use relay_service::{Amounts, BodyKeeper, KeepFault};
+use relay_queue::{Amounts, BodyConfig, BodyKeeper, BodySender, KeepFault, LostSink, SendConfig};
 use retry_core::{Fate, Next, Outcome};
 use span_exporter::MemoryExporter;
 use spool::{Device, Spool, SpoolError};

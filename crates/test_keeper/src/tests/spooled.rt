@@ -4,7 +4,7 @@ ghost use Rattle.std.specs.Prelude.{◌≡◌};
 use crate::tests::equal::assert_equal;
 use crate::tests::parts::{FIRST, Relay, SECOND, amounts, config, opened};
 use relay_keeper::{Holdings, Naming, RelayBlank, Tried};
-use relay_service::{Amounts, BodyKeeper, KeepFault};
+use relay_queue::{Amounts, BodyKeeper, KeepFault};
 use retry_core::{Next, Outcome};
 use spool::{MemoryDevice, MemoryFile};
 use std::alloc::Global;

@@ -1,6 +1,6 @@
 //! A keeper in memory, which can be told to fail.
 
-use relay_service::{BodyKeeper, KeepFault, Loss, LostSpan, Report};
+use relay_queue::{BodyKeeper, KeepFault, Loss, LostSpan, Report};
 use std::alloc::{AllocError, Global};
 
 /// Keeps at most so many bodies, and reports what it is told.

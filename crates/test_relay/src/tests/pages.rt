@@ -3,7 +3,8 @@
 use crate::tests::asked::{ONE_SPAN, answer, post, request, service, service_over};
 use crate::tests::equal::assert_equal;
 use crate::tests::keeper::{MemoryKeeper, lost};
-use relay_service::{Amounts, Loss, Page, Report, route_of};
+use relay_queue::{Amounts, Loss, Report};
+use relay_service::{Page, route_of};
 use std::alloc::Global;
 use std::process::Abort;
 use std::random::RandomSource;

@@ -6,7 +6,7 @@ use crate::tests::asked::{
 use crate::tests::equal::assert_equal;
 use crate::tests::keeper::MemoryKeeper;
 use http::StatusCode;
-use relay_service::KeepFault;
+use relay_queue::KeepFault;
 use std::alloc::Global;
 use std::process::Abort;
 use std::random::RandomSource;

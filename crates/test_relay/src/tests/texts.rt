@@ -2,7 +2,8 @@
 
 use crate::tests::equal::assert_equal;
 use crate::tests::keeper::lost;
-use relay_service::{Amounts, Loss, LostSpan, Report, write_lost, write_metrics, write_stats};
+use relay_queue::{Amounts, Loss, LostSpan, Report};
+use relay_service::{write_lost, write_metrics, write_stats};
 use std::alloc::{AllocError, Global};
 use std::test::Fail;
 use test_support::FailingAllocator;

@@ -1,6 +1,7 @@
 use Rattle.std.proofs.Common.{◌≡◌, ◌++◌, drop, map}
 use Rattle.std.specs.List.{flat_map}
-use Rattle.relay_service.specs.Lost.{lost_tokens, lost_view}
+use Rattle.relay_queue.specs.Lost.{lost_view}
+use Rattle.relay_service.specs.Lost.{lost_tokens}
 use Rattle.relay_service.proofs.lost.push_all_lost.Given as goal
 
 -- what is written, and then the spans that are left, are all

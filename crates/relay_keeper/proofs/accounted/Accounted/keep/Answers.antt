@@ -1,5 +1,5 @@
 use Rattle.std.proofs.Common.{◌∙◌, [], ◌∷◌, ap, refl, sym}
-use Rattle.relay_service.specs.declared.keeper.KeepFault.TheVariants as KeepFault
+use Rattle.relay_queue.specs.declared.keeper.KeepFault.TheVariants as KeepFault
 use Rattle.body_keeping.specs.Kept.{Kept}
 use Rattle.body_keeping.proofs.Basics.{true-false}
 use Rattle.relay_keeper.specs.Accounts.{after_posts}

@@ -1,5 +1,6 @@
 use Rattle.std.proofs.Common.{◌∙◌, ap, map}
-use Rattle.relay_service.specs.Lost.{list_tokens, lost_view}
+use Rattle.relay_queue.specs.Lost.{lost_view}
+use Rattle.relay_service.specs.Lost.{list_tokens}
 use Rattle.relay_service.proofs.show.Viewer.show_lost.Goals as goal
 
 pub returns : goal.returns

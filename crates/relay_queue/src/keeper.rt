@@ -3,10 +3,10 @@
 ghost use Rattle.std.specs.Prelude.{◌≡◌, ◌⊎◌, ◌≤◌, ℕ, IfOk, IsErrOf, IsFalse, IsTrue, List, OnOk};
 ghost use Rattle.std.specs.Prelude.{length, map, ⊤};
 ghost use Rattle.model_body.specs.Names.{IsReadable, spans_in};
-ghost use Rattle.relay_service.specs.Lost.{lost_view};
+ghost use Rattle.relay_queue.specs.Lost.{lost_view};
 
 use crate::lost::LostSpan;
-use crate::stats::Report;
+use crate::report::Report;
 use std::alloc::{AllocError, Global};
 
 /// Why a body isn't kept.
@@ -24,7 +24,7 @@ pub enum KeepFault {
 /// each has a keeper of its own.
 pub trait BodyKeeper {
     ghost use Rattle.model_body.specs.Names.{LostSpan as LostName};
-    ghost use Rattle.relay_service.specs.declared.stats.Report.{Report};
+    ghost use Rattle.relay_queue.specs.declared.report.Report.{Report};
 
     // From the first state, this body was kept, byte for byte, and the second state is left.
     ghost keeps: { Self → List ℕ → Self → Type 0 };
