@@ -4,7 +4,7 @@ use crate::failure::Failure;
 use crate::folder::Folders;
 use crate::settings::spool_limit_of;
 use crate::told::Told;
-use relay_keeper::{Accounted, Naming, RelaySender};
+use relay_store::{Accounted, Naming, RelaySender};
 use spool::{DeviceError, Opened, Spool, SpoolError, SpoolFolder};
 use std::alloc::Global;
 use std::io::Write;

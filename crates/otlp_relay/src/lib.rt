@@ -3,7 +3,7 @@
 //!
 //! [`RelayArgs`] are its arguments, and [`run_relay`] is the whole program. Its peers are served by
 //! turns, by `http_peers`, on the thread that calls it; a second thread sends. What it answers for is
-//! kept by `relay_keeper`, in memory or in a spool, whose folder [`Folders`] open.
+//! kept by `relay_store`, in memory or in a spool, whose folder [`Folders`] open.
 #![tactic(auto)]
 
 mod address;
@@ -30,4 +30,4 @@ pub use args::RelayArgs;
 pub use folder::Folders;
 pub use names::LostLines;
 pub use program::{Outside, run_relay};
-pub use relay_keeper::RelayBlank;
+pub use relay_store::RelayBlank;

@@ -5,7 +5,7 @@ ghost use Rattle.std.specs.Prelude.{◌≡◌};
 use crate::tests::device::LightDevice;
 use crate::tests::equal::assert_equal;
 use crate::tests::parts::{Relay, config, opened};
-use relay_keeper::{Naming, RelayBlank};
+use relay_store::{Naming, RelayBlank};
 use span_exporter::MemoryExporter;
 use spool::{MemoryFile, Spool};
 use std::alloc::Global;

@@ -4,7 +4,7 @@ ghost use Rattle.std.specs.Prelude.{◌≡◌};
 use crate::tests::device::LightDevice;
 use crate::tests::equal::assert_equal;
 use crate::tests::parts::{Relay, amounts, config, numbered, opened, sent_in_order};
-use relay_keeper::{Naming, RelayBlank};
+use relay_store::{Naming, RelayBlank};
 use std::alloc::Global;
 use std::marker::Brand;
 use std::process::Abort;

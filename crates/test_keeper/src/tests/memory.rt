@@ -3,8 +3,8 @@ ghost use Rattle.std.specs.Prelude.{◌≡◌};
 
 use crate::tests::equal::assert_equal;
 use crate::tests::parts::{FIRST, Relay, SECOND, amounts, config};
-use relay_keeper::{Holdings, Naming, RelayBlank, Tried};
 use relay_queue::{BodyKeeper, KeepFault, Loss, Report};
+use relay_store::{Holdings, Naming, RelayBlank, Tried};
 use retry_core::{Cause, Next, Outcome};
 use spool::MemoryDevice;
 use std::alloc::Global;

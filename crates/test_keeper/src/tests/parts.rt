@@ -4,11 +4,11 @@ ghost use Rattle.model_body.specs.Names.{IsReadable, spans_in};
 ghost use Rattle.spool.specs.Settled.{IsSettled};
 
 use post_body::read_content;
-use relay_keeper::{
+use relay_queue::{Amounts, BodyConfig, BodyKeeper, BodySender, KeepFault, LostSink, SendConfig};
+use relay_store::{
     Accounted, Closer, Holdings, Keeping, Naming, RelayBlank, RelayParts, RelaySender,
     SharedKeeper, Tried,
 };
-use relay_queue::{Amounts, BodyConfig, BodyKeeper, BodySender, KeepFault, LostSink, SendConfig};
 use retry_core::{Fate, Next, Outcome};
 use span_exporter::MemoryExporter;
 use spool::{Device, Spool, SpoolError};

@@ -3,8 +3,8 @@ ghost use Rattle.std.specs.Prelude.{◌≡◌};
 
 use crate::tests::equal::assert_equal;
 use crate::tests::parts::{FIRST, Relay, SECOND, amounts, config, opened};
-use relay_keeper::{Holdings, Naming, RelayBlank, Tried};
 use relay_queue::{Amounts, BodyKeeper, KeepFault};
+use relay_store::{Holdings, Naming, RelayBlank, Tried};
 use retry_core::{Next, Outcome};
 use spool::{MemoryDevice, MemoryFile};
 use std::alloc::Global;

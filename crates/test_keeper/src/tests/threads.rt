@@ -3,8 +3,8 @@ ghost use Rattle.std.specs.Prelude.{◌≡◌};
 
 use crate::tests::equal::assert_equal;
 use crate::tests::parts::{Digits, Relay, amounts, config, keep, numbered, sent_in_order};
-use relay_keeper::{Accounted, Naming, RelayBlank, RelaySender};
 use relay_queue::BodyKeeper;
+use relay_store::{Accounted, Naming, RelayBlank, RelaySender};
 use span_exporter::MemoryExporter;
 use spool::MemoryDevice;
 use std::alloc::Global;

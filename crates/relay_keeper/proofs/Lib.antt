@@ -1,9 +1,0 @@
-mod Held
-mod Together
-mod Book
-mod Steps
-mod Order
-mod Known
-mod Balance
-mod Recalled
-mod Handled
