@@ -2,8 +2,8 @@
 //! keeps the bodies that carry them, and hands these on to a collector.
 //!
 //! [`RelayArgs`] are its arguments, and [`run_relay`] is the whole program. Its peers are served by
-//! turns, by `http_peers`, on the thread that calls it; a second thread sends. What it answers for is
-//! kept by `relay_store`, in memory or in a spool, whose folder [`Folders`] open.
+//! turns, by `http_listener`, on the thread that calls it; a second thread sends. What it answers for
+//! is kept by `relay_store`, in memory or in a spool, whose folder [`Folders`] open.
 #![tactic(auto)]
 
 mod address;

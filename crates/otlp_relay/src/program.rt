@@ -16,7 +16,7 @@ use crate::sending::Sending;
 use crate::serving::{Relay, failure_of, serve};
 use crate::settings::{config_of, enough_of, max_body_of, sends_of, settings_of, stop_ms_of};
 use crate::told::Told;
-use http_peers::{Dated, Peers, listen};
+use http_listener::{Dated, Peers, listen};
 use relay_queue::{BodyKeeper, BodySender, LostSink};
 use relay_service::{Hosts, NoPieces, RelayService};
 use relay_store::{

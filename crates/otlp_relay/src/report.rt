@@ -1,7 +1,7 @@
 //! The lines on refused requests.
 
 use http::StatusCode;
-use http_peers::{Complaints, Line};
+use http_listener::{Complaints, Line};
 use relay_service::Tallies;
 use std::io::Write;
 

@@ -2,7 +2,7 @@
 
 use crate::failure::Failure;
 use crate::report::report;
-use http_peers::{Complaints, Dated, End, Peers, Round};
+use http_listener::{Complaints, Dated, End, Peers, Round};
 use relay_queue::BodyKeeper;
 use relay_service::{NoPieces, RelayService};
 use std::alloc::Global;

@@ -3,7 +3,7 @@ ghost use Rattle.std.specs.Prelude.{◌≡◌, ◌≤◌, ◌*◌, ◌-◌, min}
 
 use crate::args::RelayArgs;
 use crate::keeping::SEGMENT_BYTES;
-use http_peers::Settings;
+use http_listener::Settings;
 use relay_queue::{BodyConfig, SendConfig};
 use retry_core::RetryConfig;
 

@@ -2,7 +2,7 @@
 
 use crate::keeping::say_damaged;
 use http_exporter::Failure;
-use http_peers::{Complaint, Line};
+use http_listener::{Complaint, Line};
 use std::io::Write;
 
 /// What the thread that sends reports, on lines of its own.

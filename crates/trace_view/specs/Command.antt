@@ -5,7 +5,7 @@ use Rattle.std.specs.Net.Grammar.{IsIpText}
 use Rattle.std.specs.declared.net.IpAddr.{IpAddr}
 use Rattle.std.specs.declared.net.IpAddr.TheVariants.{V4}
 use Rattle.clap.specs.Words.{App, Text}
-use Rattle.http_cors.specs.Origins.{is_origin}
+use Rattle.http_listener.specs.Origins.{is_origin}
 use Rattle.program_args.specs.Line.{app_with, number_rule, text_rule}
 use Rattle.program_args.specs.Words.{AreFaulty, AskForHelp, AskForVersion, IsTaken, texts_given}
 use Rattle.program_args.specs.declared.fault.ArgFault.{ArgFault}

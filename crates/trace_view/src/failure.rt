@@ -3,7 +3,7 @@
 ghost use Rattle.std.specs.Prelude.{◌≡◌, ◌⊎◌};
 ghost use Rattle.trace_view.specs.Failures.{status_of};
 
-use http_peers::ListenFault;
+use http_listener::ListenFault;
 use std::io::Write;
 use std::net::SocketAddr;
 use thiserror::Error;

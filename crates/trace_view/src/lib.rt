@@ -2,7 +2,7 @@
 //! keeps the newest traces, and shows them in a browser.
 //!
 //! [`ViewArgs`] are its arguments, and [`run_view`] is the whole program. Its peers are served by
-//! turns, by `http_peers`.
+//! turns, by `http_listener`.
 #![tactic(auto)]
 
 mod address;

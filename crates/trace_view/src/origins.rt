@@ -2,11 +2,11 @@
 ghost use Rattle.std.specs.Prelude.{◌≡◌};
 ghost use Rattle.program_args.specs.Words.{texts_of};
 ghost use Rattle.trace_view.specs.Command as spec;
-ghost use Rattle.http_cors.specs.Origins.{is_origin};
+ghost use Rattle.http_listener.specs.Origins.{is_origin};
 ghost use Rattle.std.specs.Prelude.{string_bytes};
 ghost use Rattle.std.specs.List.{list_all};
 
-use http_cors::is_origin;
+use http_listener::is_origin;
 
 /// Whether each of these texts is an origin.
 fn is_each_origin(texts: &[String]) -> bool

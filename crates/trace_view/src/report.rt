@@ -1,7 +1,7 @@
 //! The lines on refused requests.
 
 use http::StatusCode;
-use http_peers::{Complaints, Line};
+use http_listener::{Complaints, Line};
 use std::io::Write;
 use view_service::Tallies;
 

@@ -4,7 +4,7 @@ use crate::tests::equal::assert_equal;
 use bytes::{BufMut, Bytes};
 use http::Request;
 use http_connection::{Gathers, Pieces, Refusal, Service};
-use http_peers::{Peers, Settings, listen};
+use http_listener::{Peers, Settings, listen};
 use http_server::Response;
 use std::alloc::AllocError;
 use std::fs::File;

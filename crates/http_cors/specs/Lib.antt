@@ -1,3 +1,0 @@
-pub mod Fields
-pub mod Origins
-pub mod Serves

@@ -1,0 +1,13 @@
+pub mod Accepts
+pub mod Clocks
+pub mod Complaints
+pub mod Kinds
+pub mod Moments
+pub mod Waiting
+pub mod Serving
+pub mod Stages
+pub mod Crowds
+pub mod Rounds
+pub mod CorsFields
+pub mod Origins
+pub mod CorsService
