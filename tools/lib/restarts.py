@@ -44,7 +44,7 @@ class Restarts:
         self.port, self.far_port = free_port(), free_port()
         to = f"http://{HOST}:{self.far_port}"
         self.words = ["--port", str(self.port), "--to", to, "--spool", f"{self.folder.name}/spool"]
-        self.built = Background("otlp_relay_main", self.words, ["--seconds", "3600"])
+        self.built = Background("otlp_relay", self.words, ["--seconds", "3600"])
         self.command, self.again = [], None
 
     def __enter__(self):

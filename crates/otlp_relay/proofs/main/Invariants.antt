@@ -1,4 +1,4 @@
-use Rattle.otlp_relay_main.proofs.main.Given as goal
+use Rattle.otlp_relay.proofs.main.Given as goal
 
 -- the type that stands for the relay's name has the blank's
 abbrev pub ghosts-run_relay : goal.ghosts-run_relay

@@ -1,10 +1,20 @@
 //! `trace-view` receives spans by OTLP/HTTP, keeps the newest traces, and shows them in a browser.
+//!
+//! [`ViewArgs`](args::ViewArgs) are its arguments, and [`run_view`] is the whole program, over a
+//! runtime and writers. Its peers are served by turns, by `http_listener`.
 #![tactic(auto)]
 
+mod address;
+mod args;
+mod failure;
+mod origins;
+mod program;
+mod report;
+
+use crate::program::run_view;
 use std::io::BufWriter;
 use std::process::ExitCode;
 use std::{env, io};
-use trace_view::run_view;
 use view_service::Site;
 
 fn main(rt: HostRuntime) -> io::Result<ExitCode> {

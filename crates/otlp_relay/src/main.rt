@@ -1,8 +1,35 @@
 //! `otlp-relay` receives spans by OTLP/HTTP, keeps them in memory or on a disk, and hands them on to a
 //! collector.
+//!
+//! [`RelayArgs`](args::RelayArgs) are its arguments, and [`run_relay`] is the whole program, over a
+//! runtime and writers. Its peers are served by turns, by `http_listener`, on the thread that calls
+//! it; a second thread sends. What it answers for is kept by `relay_store`, in memory or in a spool,
+//! whose folder [`Folders`] open.
 #![tactic(auto)]
 
-use otlp_relay::{Folders, Outside, RelayBlank, run_relay};
+mod address;
+mod args;
+mod balance;
+mod collector;
+mod course;
+mod failure;
+mod folder;
+mod header;
+mod keeping;
+mod lost;
+mod moments;
+mod names;
+mod program;
+mod report;
+mod sending;
+mod serving;
+mod settings;
+mod target;
+mod told;
+
+use crate::folder::Folders;
+use crate::program::{Outside, run_relay};
+use relay_store::RelayBlank;
 use std::io::BufWriter;
 use std::marker::Brand;
 use std::process::ExitCode;
