@@ -18,7 +18,7 @@ use Rattle.otlp_json.specs.Leaves.{payload}
 use Rattle.otlp_json.specs.Names.{member_named, one, nested, each}
 use Rattle.otlp_json.specs.LeafNames.{AnyLeaf}
 use Rattle.otlp_json.specs.MessageNames.{AnyMessage}
-use Rattle.view_json.specs.Seen.{Seen, Other, Number, braces, brackets, is_mark, seen}
+use Rattle.otlp_json.specs.Seen.{Seen, Other, Number, braces, brackets, is_mark, seen}
 
 -- ---- tokens that are seen so
 

@@ -19,7 +19,7 @@ use Rattle.otlp_read.specs.Spans.{status_view}
 use Rattle.otlp_read.specs.Values.{pairs_view}
 use Rattle.trace_store.specs.declared.span.ViewScope.{ViewScope}
 use Rattle.trace_store.specs.declared.span.ViewSpan.{ViewSpan}
-use Rattle.view_json.specs.Seen.{Seen, Other, braces, brackets, number_seen}
+use Rattle.otlp_json.specs.Seen.{Seen, Other, braces, brackets, number_seen}
 use Rattle.view_json.specs.Spans.{event_seen, link_seen, target_members, status_member, span_seen}
 use Rattle.view_json.specs.Spans.{identity_members, work_members, attribute_members, event_members}
 use Rattle.view_json.specs.Spans.{link_members, detail_members, resource_member, scope_member}

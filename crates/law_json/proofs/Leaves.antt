@@ -35,7 +35,7 @@ use Rattle.otlp_json.specs.declared.fault.JsonFault.{JsonFault}
 use Rattle.otlp_json.specs.declared.fault.JsonFault.TheVariants as faults
 use Rattle.otlp_json.specs.LeafNames.{AnyLeaf}
 use Rattle.otlp_json.specs.LeafNames as leaves
-use Rattle.view_json.specs.Seen.{Seen, Other, Number, float_seen, number_seen, is_mark}
+use Rattle.otlp_json.specs.Seen.{Seen, Other, Number, float_seen, number_seen, is_mark}
 use Rattle.law_json.specs.Back.{double_back}
 use Rattle.law_json.proofs.Fronts.{Shows}
 use Rattle.law_json.proofs.Numerals.{whole_decimal, whole_signed}

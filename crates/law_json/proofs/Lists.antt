@@ -19,7 +19,7 @@ use Rattle.otlp_json.specs.Names.{member_named}
 use Rattle.otlp_json.specs.LeafNames.{AnyLeaf}
 use Rattle.otlp_json.specs.LeafNames.{AnyMember}
 use Rattle.otlp_json.specs.MessageNames.{AnyMessage}
-use Rattle.view_json.specs.Seen.{Seen, Other, braces, brackets}
+use Rattle.otlp_json.specs.Seen.{Seen, Other, braces, brackets}
 use Rattle.law_json.proofs.Fronts.{Takes, TakesItems, TakesMembers, TakesObject, each_member}
 use Rattle.law_json.proofs.Fronts.{leaf_member, nested_member, no_items, then_items, then_members}
 use Rattle.law_json.proofs.Leaves.{Means}

@@ -26,7 +26,7 @@ use Rattle.otlp_json.specs.Names.{member_named, resource_member, scope_member, e
 use Rattle.otlp_json.specs.Names.{status_member}
 use Rattle.otlp_json.specs.LeafNames as leaves
 use Rattle.otlp_json.specs.MessageNames as messages
-use Rattle.view_json.specs.Seen.{Seen, Other, braces, brackets, number_seen}
+use Rattle.otlp_json.specs.Seen.{Seen, Other, braces, brackets, number_seen}
 use Rattle.view_json.specs.Values.{value_member}
 use Rattle.law_json.specs.Back.{message_back}
 use Rattle.law_json.specs.Sound.{IsSound, IsSoundMessage, IsSoundValue}

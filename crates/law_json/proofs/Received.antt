@@ -12,7 +12,7 @@ use Rattle.otlp_read.specs.declared.any_value.AnyValue.TheOpen.{AnyValue-F}
 use Rattle.otlp_read.specs.declared.any_value.AnyValue.TheFolds.{fold-roll-AnyValue, ind-AnyValue}
 use Rattle.otlp_read.specs.declared.any_value.AnyValue.TheViews.{roll-AnyValue}
 use Rattle.otlp_read.specs.Values.{any_value_view, string_pair, view_step}
-use Rattle.view_json.specs.Seen.{Seen, Other, braces, brackets}
+use Rattle.otlp_json.specs.Seen.{Seen, Other, braces, brackets}
 use Rattle.view_json.specs.Values.{member_seen, member_step, nested, nested_front, pair_step}
 use Rattle.view_json.specs.Values.{pair_text}
 use Rattle.law_json.proofs.Values.{pairs_items, value_members, values_items}

@@ -18,7 +18,7 @@ use Rattle.otlp_json.specs.Names.{scope_spans_member}
 use Rattle.otlp_json.specs.LeafNames as leaves
 use Rattle.otlp_json.specs.MessageNames as messages
 use Rattle.otlp_json.specs.MessageNames.{AnyMessage}
-use Rattle.view_json.specs.Seen.{Seen, Other, braces, brackets}
+use Rattle.otlp_json.specs.Seen.{Seen, Other, braces, brackets}
 use Rattle.law_json.specs.Back.{message_back, triple_back}
 use Rattle.law_json.specs.Sound.{IsSoundTriple}
 use Rattle.law_json.proofs.Fronts.{Show, TakesItems, TakesMembers, TakesObject, no_items}

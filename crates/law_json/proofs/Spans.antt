@@ -20,7 +20,7 @@ use Rattle.otlp_json.specs.Bodies.{object}
 use Rattle.otlp_json.specs.Names.{member_named, link_member, span_member, more_of_span}
 use Rattle.otlp_json.specs.LeafNames as leaves
 use Rattle.otlp_json.specs.MessageNames as messages
-use Rattle.view_json.specs.Seen.{Seen, Other, braces, brackets, number_seen}
+use Rattle.otlp_json.specs.Seen.{Seen, Other, braces, brackets, number_seen}
 use Rattle.law_json.specs.Back.{message_back}
 use Rattle.law_json.specs.Sound.{IsSoundMessage}
 use Rattle.law_json.proofs.Fronts.{TakesObject, no_members, object_takes}

@@ -14,7 +14,7 @@ use Rattle.otlp_json.specs.Bodies.{body_bytes, bytes_after, request_fields, whol
 use Rattle.otlp_json.specs.declared.fault.JsonFault.TheVariants as faults
 use Rattle.trace_store.specs.declared.span.ViewSpan.{ViewSpan}
 use Rattle.view_json.specs.Pieces.{IsJsonText}
-use Rattle.view_json.specs.Seen.{braces}
+use Rattle.otlp_json.specs.Seen.{braces}
 use Rattle.law_json.specs.Back.{triple_back}
 use Rattle.law_json.specs.Kept.{kept_triple}
 use Rattle.law_json.specs.Laws.{ReceivedIsReadBack, TraceIsReadBack, WasRead}

@@ -22,7 +22,7 @@ use Rattle.otlp_json.specs.Names.{key_value_list_member, key_value_member}
 use Rattle.otlp_json.specs.LeafNames as leaves
 use Rattle.otlp_json.specs.MessageNames.{AnyMessage}
 use Rattle.otlp_json.specs.MessageNames as messages
-use Rattle.view_json.specs.Seen.{Seen, Other, braces, brackets, float_seen}
+use Rattle.otlp_json.specs.Seen.{Seen, Other, braces, brackets, float_seen}
 use Rattle.view_json.specs.Values.{value_member}
 use Rattle.law_json.specs.Back.{double_back}
 use Rattle.law_json.specs.Sound.{IsPairValue, IsSoundValue}

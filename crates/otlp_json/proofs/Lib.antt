@@ -3,3 +3,4 @@ pub mod Rows
 pub mod Outcomes
 pub mod Wholes
 pub mod OnLiterals
+pub mod Chains

@@ -6,3 +6,4 @@ pub mod Bodies
 pub mod Writing
 pub mod MessageNames
 pub mod LeafNames
+pub mod Seen

@@ -12,10 +12,13 @@
 //!   a point or an exponent, as `1e3`.
 //! - A name that comes again in an object means what a field means that comes again in bytes: of
 //!   numbers, texts and kinds of values the last counts, messages are merged, lists are joined.
+//!
+//! The module [`field`] writes members of objects of JSON.
 #![tactic(auto)]
 
 mod body;
 mod fault;
+pub mod field;
 mod leaf;
 mod names;
 mod number;

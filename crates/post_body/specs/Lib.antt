@@ -1,3 +1,4 @@
 pub mod Contents
 pub mod Posts
 pub mod Reads
+pub mod Metrics

@@ -4,7 +4,7 @@ use Rattle.std.specs.List.{flat_map}
 use Rattle.json.specs.Token.{Token, begin_array, begin_object, end_array, end_object, key}
 use Rattle.model_body.specs.Names.{LostSpan as LostName}
 use Rattle.model_desk.specs.Retries.{Fate}
-use Rattle.view_json.specs.Seen.{hex_member, number_member, text_member}
+use Rattle.otlp_json.specs.Seen.{hex_member, number_member, text_member}
 
 -- why a span was lost, in a word
 abbrev pub reason_of : Fate → List ℕ

@@ -7,9 +7,9 @@ ghost use Rattle.relay_queue.specs.Lost.{loss_view, lost_view};
 ghost use Rattle.relay_service.specs.Lost.{list_tokens, lost_tokens, reason_of, status_member};
 
 use json::Writer;
+use otlp_json::field::{begin, begin_list, end, end_list, push_hex, push_number, push_text};
 use relay_queue::{Loss, LostSpan};
 use std::alloc::{AllocError, Allocator};
-use view_json::field::{begin, begin_list, end, end_list, push_hex, push_number, push_text};
 
 /// Why a span was lost, in a word.
 fn reason_of(loss: Loss) -> &'static str

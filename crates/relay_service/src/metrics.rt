@@ -3,9 +3,9 @@
 ghost use Rattle.std.specs.Prelude.{◌≡◌, ◌++◌, OnOk, string_bytes};
 ghost use Rattle.relay_service.specs.Stats.{body_metrics, metrics_text, span_metrics};
 
+use post_body::push_metric;
 use relay_queue::{Amounts, Report};
 use std::alloc::{AllocError, Allocator};
-use view_json::push_metric;
 
 /// Appends the metrics of bodies.
 #[tactic(auto, unfolding(crate::specs::Stats::body_metrics))]

@@ -5,9 +5,9 @@ ghost use Rattle.json.specs.Lex.{tokens};
 ghost use Rattle.relay_service.specs.Stats.{amount_members, stats_tokens};
 
 use json::Writer;
+use otlp_json::field::{begin, begin_member, end, push_number};
 use relay_queue::{Amounts, Report};
 use std::alloc::{AllocError, Allocator};
-use view_json::field::{begin, begin_member, end, push_number};
 
 /// Writes amounts.
 #[tactic(auto, unfolding(crate::specs::Stats::amount_members))]

@@ -8,8 +8,8 @@ ghost use Rattle.std.specs.Prelude.{◌≡◌, ◌∷◌, [], Some, codes, from_
 ghost use Rattle.std.specs.Float.{binary64};
 ghost use Rattle.std.specs.Float.Ieee.{fin};
 ghost use Rattle.json.specs.Token.{begin_object, boolean, end_object, key, number, string};
-ghost use Rattle.view_json.specs.Seen.{Number, Other, float_seen, hex_member, long_member};
-ghost use Rattle.view_json.specs.Seen.{seen};
+ghost use Rattle.otlp_json.specs.Seen.{Number, Other, float_seen, hex_member, long_member};
+ghost use Rattle.otlp_json.specs.Seen.{seen};
 ghost use Rattle.view_json.specs.Values.{pair_text};
 
 /// Identifiers are in hexadecimal, in lower case; numbers of 64 bits are texts.

@@ -12,7 +12,7 @@ use Rattle.std.proofs.lemmas.List.{map-append}
 use lib.Ieee.Bits.{nan_bits_is, nan_bits_above}
 use lib.Ieee.{is_nan as nan_test}
 use Rattle.json.specs.Token.{Token, number, string}
-use Rattle.view_json.specs.Seen.{Other, Number, float_seen, is_mark, seen, seen_of}
+use Rattle.otlp_json.specs.Seen.{Other, Number, float_seen, is_mark, seen, seen_of}
 
 -- Bits are those of no number exactly where, without the sign, they are above those of infinity.
 pub nan_at : (bits : ℕ)

@@ -1,5 +1,4 @@
 pub mod Views
-pub mod Chains
 mod Doubles
 pub mod Printed
 mod Stages

@@ -22,7 +22,7 @@ use Rattle.std.proofs.lemmas.Str.{IsUtf8-append, IsUtf8-nil}
 use Rattle.json.proofs.Printed.Utf8.{IsUtf8-are_ascii}
 use Rattle.json.proofs.Numbered.{ArePrintableOrBad-tokens}
 use Rattle.json.proofs.Printed.Tokens.{tokens-print, print_from-append, ends_push}
-use Rattle.view_json.specs.Seen.{Seen, Other, Number, braces, is_mark, seen, seen_of}
+use Rattle.otlp_json.specs.Seen.{Seen, Other, Number, braces, is_mark, seen, seen_of}
 use Rattle.view_json.specs.Pieces.{IsJsonText, IsPieceBetween, comma_if}
 
 -- ---- after a bad token comes none

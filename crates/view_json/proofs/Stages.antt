@@ -15,7 +15,7 @@ use Rattle.json.specs.Print.{ArePrintable, escape_byte, print, print_from}
 use Rattle.json.specs.Token.{Token, begin_array, begin_object, end_array, end_object, key}
 use Rattle.trace_store.specs.declared.span.ViewSpan.{ViewSpan}
 use Rattle.view_json.specs.Pieces.{IsJsonText, IsLeft, IsPieceBetween, comma_if, is_end, left_seen}
-use Rattle.view_json.specs.Seen.{Seen, Other, seen}
+use Rattle.otlp_json.specs.Seen.{Seen, Other, seen}
 use Rattle.view_json.specs.Spans.{kept_seen, resource_spans_seen}
 use Rattle.view_json.specs.declared.pieces.Stage.{Stage}
 use Rattle.view_json.specs.declared.pieces.Stage.TheVariants.{Head, Spans, End}

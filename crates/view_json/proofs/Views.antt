@@ -7,7 +7,7 @@ use Rattle.std.proofs.lemmas.Bool.{eqb-true}
 use Rattle.std.proofs.lemmas.List.Folds.{flat_map-map}
 use Rattle.otlp_read.specs.declared.any_value.AnyValue.{AnyValue, Array, Pairs, Text, the_lemmas}
 use Rattle.std.specs.String.{string_bytes}
-use Rattle.view_json.specs.Seen.{Seen, braces, object_member, seen, text_member}
+use Rattle.otlp_json.specs.Seen.{Seen, braces, object_member, seen, text_member}
 use Rattle.view_json.specs.Values.{member_seen, nested, pair_seen, pair_step, value_member}
 use Rattle.view_json.specs.Values.{value_seen}
 

@@ -8,7 +8,7 @@ use Rattle.hex.specs.Hex.{encode_lower}
 use Rattle.trace_lines.specs.declared.summary.Summary.{Summary}
 use Rattle.json.specs.Token.{Token, begin_array, begin_object, end_array, end_object, key, string}
 use Rattle.view_json.specs.declared.list.Stats.{Stats}
-use Rattle.view_json.specs.Seen.{hex_member, long_member, number_member, text_member}
+use Rattle.otlp_json.specs.Seen.{hex_member, long_member, number_member, text_member}
 
 -- that a text is only the beginning of a longer one: '…' (U+2026) in UTF-8
 abbrev pub mark : Bool → List ℕ

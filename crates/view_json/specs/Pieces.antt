@@ -6,7 +6,7 @@ use Rattle.std.specs.declared.sync.Arc.{Arc}
 use Rattle.json.specs.Print.{ArePrintable, print_from}
 use Rattle.json.specs.Token.{Token, end_array, end_object}
 use Rattle.trace_store.specs.declared.span.ViewSpan.{ViewSpan}
-use Rattle.view_json.specs.Seen.{Seen, Other, seen}
+use Rattle.otlp_json.specs.Seen.{Seen, Other, seen}
 use Rattle.view_json.specs.Spans.{kept_seen, trace_seen}
 use Rattle.view_json.specs.declared.pieces.Stage.{Stage}
 use Rattle.view_json.specs.declared.pieces.Stage.TheVariants.{Head, Spans, End}

@@ -13,8 +13,8 @@ use Rattle.std.specs.declared.sync.Arc.{Arc}
 use Rattle.trace_store.specs.declared.span.ViewResource.{ViewResource}
 use Rattle.trace_store.specs.declared.span.ViewScope.{ViewScope}
 use Rattle.trace_store.specs.declared.span.ViewSpan.{ViewSpan}
-use Rattle.view_json.specs.Seen.{Seen, array_member, braces, hex_member, long_member, seen}
-use Rattle.view_json.specs.Seen.{number_member, object_member, signed_member, text_member}
+use Rattle.otlp_json.specs.Seen.{Seen, array_member, braces, hex_member, long_member, seen}
+use Rattle.otlp_json.specs.Seen.{number_member, object_member, signed_member, text_member}
 use Rattle.view_json.specs.Values.{attributes_member}
 
 -- (trace.proto: Span.Event)

@@ -8,8 +8,8 @@ use Rattle.base64.specs.Engines.{standard}
 use Rattle.json.specs.Token.{begin_array, begin_object, boolean, end_array, end_object, key}
 use Rattle.otlp_read.specs.declared.any_value.AnyValue.{AnyValue, fold-AnyValue}
 use Rattle.otlp_read.specs.declared.any_value.AnyValue.TheOpen.{AnyValue-F}
-use Rattle.view_json.specs.Seen.{Seen, Other, array_member, braces, float_seen, object_member, seen}
-use Rattle.view_json.specs.Seen.{text_member}
+use Rattle.otlp_json.specs.Seen.{Seen, Other, array_member, braces, float_seen, object_member, seen}
+use Rattle.otlp_json.specs.Seen.{text_member}
 
 -- the member of this name of a value with others in it: what comes before them, and what after
 abbrev pub nested_front : List ℕ → List Seen

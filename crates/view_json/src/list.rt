@@ -7,10 +7,12 @@ ghost use Rattle.view_json.specs.Lists as spec;
 ghost use Rattle.view_json.specs.Lists.{count_members, evicted_member, list_tokens, name_members};
 ghost use Rattle.view_json.specs.Lists.{pending_member, span_counts, stats_tokens, summary_tokens};
 ghost use Rattle.view_json.specs.Lists.{trace_counts, trace_token};
-ghost use Rattle.view_json.specs.Seen.{text_member};
+ghost use Rattle.otlp_json.specs.Seen.{text_member};
 
-use crate::field::{begin, begin_list, end, end_list, push_hex, push_long, push_number, push_text};
 use json::Writer;
+use otlp_json::field::{
+    begin, begin_list, end, end_list, push_hex, push_long, push_number, push_text,
+};
 use std::alloc::{AllocError, Allocator};
 use trace_lines::{Summary, front_of};
 

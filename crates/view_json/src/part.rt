@@ -1,12 +1,12 @@
 //! Resources and scopes.
 
 ghost use Rattle.std.specs.Prelude.{◌≡◌, ◌++◌, OnOk};
-ghost use Rattle.view_json.specs.Seen.{seen};
+ghost use Rattle.otlp_json.specs.Seen.{seen};
 ghost use Rattle.view_json.specs.Spans.{resource_member, scope_member};
 
-use crate::field::{begin_member, end, push_number, push_text};
 use crate::value::push_attributes;
 use json::Writer;
+use otlp_json::field::{begin_member, end, push_number, push_text};
 use otlp_read::{InstrumentationScope, Resource};
 use std::alloc::{AllocError, Allocator};
 

@@ -8,7 +8,7 @@ ghost use Rattle.json.specs.Token.{Token};
 ghost use Rattle.std.specs.Str.{IsUtf8};
 ghost use Rattle.view_json.specs.Pieces.{IsJsonText, IsLeft, IsPieceBetween, StillWrites};
 ghost use Rattle.view_json.specs.Pieces.{comma_if, is_end};
-ghost use Rattle.view_json.specs.Seen.{seen};
+ghost use Rattle.otlp_json.specs.Seen.{seen};
 ghost use Rattle.view_json.specs.Spans.{kept_seen, trace_seen};
 ghost use Rattle.view_json.specs.declared.pieces.Stage.TheVariants as stages;
 

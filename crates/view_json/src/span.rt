@@ -2,17 +2,17 @@
 
 ghost use Rattle.std.specs.Prelude.{◌≡◌, ◌++◌, OnOk};
 ghost use Rattle.std.specs.List.{flat_map};
-ghost use Rattle.view_json.specs.Seen.{seen};
+ghost use Rattle.otlp_json.specs.Seen.{seen};
 ghost use Rattle.view_json.specs.Spans.{attribute_members, detail_members, event_members};
 ghost use Rattle.view_json.specs.Spans.{event_seen, identity_members, link_members, link_seen};
 ghost use Rattle.view_json.specs.Spans.{span_seen, status_member, target_members, work_members};
 
-use crate::field::{
+use crate::value::push_attributes;
+use json::Writer;
+use otlp_json::field::{
     begin, begin_list, begin_member, end, end_list, push_hex, push_long, push_number, push_signed,
     push_text,
 };
-use crate::value::push_attributes;
-use json::Writer;
 use otlp_read::{Event, Link, Span, Status};
 use std::alloc::{AllocError, Allocator};
 

@@ -1,13 +1,13 @@
 //! A span under its resource and its scope, as OTLP's JSON has it.
 
 ghost use Rattle.std.specs.Prelude.{◌≡◌, ◌++◌, OnOk};
-ghost use Rattle.view_json.specs.Seen.{seen};
+ghost use Rattle.otlp_json.specs.Seen.{seen};
 ghost use Rattle.view_json.specs.Spans.{resource_spans_seen, scope_spans_seen};
 
-use crate::field::{begin, begin_list, end, end_list, push_text};
 use crate::part::{push_resource, push_scope};
 use crate::span::push_span;
 use json::Writer;
+use otlp_json::field::{begin, begin_list, end, end_list, push_text};
 use otlp_read::Span;
 use std::alloc::{AllocError, Allocator};
 use trace_store::{ViewResource, ViewScope};

@@ -7,16 +7,16 @@ ghost use Rattle.std.specs.List.{flat_map};
 ghost use Rattle.base64.specs.GeneralPurpose.{encode_of};
 ghost use Rattle.base64.specs.Engines.{standard};
 ghost use Rattle.json.specs.Token.{boolean, key};
-ghost use Rattle.view_json.specs.Seen.{Other, float_seen, seen, text_member};
+ghost use Rattle.otlp_json.specs.Seen.{Other, float_seen, seen, text_member};
 ghost use Rattle.view_json.specs.Values.{attributes_member, member_seen, nested, nested_back};
 ghost use Rattle.view_json.specs.Values.{nested_front, pair_seen, pair_text, value_seen};
 
-use crate::field::{
+use base64::engine::general_purpose::STANDARD;
+use json::Writer;
+use otlp_json::field::{
     begin, begin_list, begin_member, end, end_list, push_bool, push_key, push_signed_long,
     push_text,
 };
-use base64::engine::general_purpose::STANDARD;
-use json::Writer;
 use otlp_read::AnyValue;
 use std::alloc::{AllocError, Allocator};
 

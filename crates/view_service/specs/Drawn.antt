@@ -4,7 +4,7 @@ use Rattle.std.specs.declared.sync.Arc.{Arc}
 use Rattle.json.specs.Lex.{tokens}
 use Rattle.trace_lines.specs.Texts.{DrawsText, StillWrites as StillWritesText}
 use Rattle.view_json.specs.Pieces.{StillWrites}
-use Rattle.view_json.specs.Seen.{seen}
+use Rattle.otlp_json.specs.Seen.{seen}
 use Rattle.view_json.specs.Spans.{trace_seen}
 use Rattle.view_pages.specs.Pages.{DrawsPage}
 use Rattle.view_pages.specs.Pieces.{StillWrites as StillWritesPage}

@@ -5,3 +5,4 @@ pub mod Serves
 pub mod Shows
 pub mod Drawn
 pub mod Listed
+pub mod Metrics

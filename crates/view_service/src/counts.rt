@@ -1,9 +1,10 @@
 //! What is counted, as it is written.
 
+use crate::metrics::Answered;
 use crate::{Counts, Tallies};
 use http::StatusCode;
 use std::alloc::{AllocError, Global};
-use view_json::{Answered, Stats};
+use view_json::Stats;
 
 /// What is counted of spans.
 pub(crate) fn stats_of(spans: &Counts) -> Stats {

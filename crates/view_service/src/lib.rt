@@ -3,13 +3,15 @@
 //!
 //! [`ViewService`] is what an `http_connection` calls. A [`TraceKeeper`] keeps the spans, and what
 //! implements [`Pages`] writes the pages. [`Site`] is that of `trace-view`: the pages of
-//! `view_pages`, and the answers for programs of `view_json`.
+//! `view_pages`, the answers for programs of `view_json`, and what is counted, for Prometheus
+//! ([`write_metrics`]).
 #![tactic(auto)]
 
 mod counts;
 mod filter;
 mod keeper;
 mod lists;
+mod metrics;
 mod page;
 mod pages;
 mod receive;
@@ -23,6 +25,7 @@ mod site_filter;
 pub use filter::TraceFilter;
 pub use http_connection::reply::{Denial, Format, Hosts, Tallies};
 pub use keeper::{Counts, Listed, TraceKeeper};
+pub use metrics::{Answered, write_metrics};
 pub use page::SitePage;
 pub use pages::{Asked, ListForm, Pages, TraceForm};
 pub use route::{Route, route_of};

@@ -6,6 +6,7 @@ ghost use Rattle.view_service.specs.Drawn.{DrawsJson, Draws, SiteWrites};
 
 use crate::counts::{answered_of, stats_of};
 use crate::lists::summaries_of;
+use crate::metrics::write_metrics;
 use crate::page::SitePage;
 use crate::script::SCRIPT;
 use crate::site_filter::SiteFilter;
@@ -14,7 +15,7 @@ use std::alloc::{AllocError, Global};
 use std::sync::Arc;
 use trace_lines::{Filter, FilterFault, TraceText};
 use trace_store::{TraceDigest, ViewSpan};
-use view_json::{TraceJson, write_metrics, write_stats, write_traces};
+use view_json::{TraceJson, write_stats, write_traces};
 use view_pages::{STYLE, TracePage, write_list_page, write_notice_page};
 
 /// The pages of `view_pages`, and the answers for programs of `view_json`.

@@ -3,7 +3,8 @@ use crate::tests::equal::assert_equal;
 use std::alloc::{AllocError, Allocator, Global};
 use std::test::Fail;
 use trace_lines::Summary;
-use view_json::{Answered, Stats, write_metrics, write_stats, write_traces};
+use view_json::{Stats, write_stats, write_traces};
+use view_service::{Answered, write_metrics};
 
 /// What is counted.
 pub(crate) fn stats() -> Stats {

@@ -1,6 +1,6 @@
 use Rattle.std.specs.Prelude.{codes}
-use Rattle.view_json.specs.Seen.{hex_member, text_member}
-use Rattle.view_json.proofs.Chains.{appended, named}
+use Rattle.otlp_json.specs.Seen.{hex_member, text_member}
+use Rattle.otlp_json.proofs.Chains.{appended, named}
 use Rattle.relay_service.specs.Lost.{lost_tokens}
 use Rattle.relay_service.proofs.lost.push_lost.Goals as goal
 

@@ -1,5 +1,5 @@
 use Rattle.std.proofs.Common.{string_bytes}
-use Rattle.view_json.proofs.Chains.{appended}
+use Rattle.otlp_json.proofs.Chains.{appended}
 use Rattle.relay_service.specs.Stats.{body_metrics}
 use Rattle.relay_service.proofs.metrics.push_body_metrics.Goals as goal
 

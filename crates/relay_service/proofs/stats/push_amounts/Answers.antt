@@ -1,4 +1,4 @@
-use Rattle.view_json.proofs.Chains.{appended}
+use Rattle.otlp_json.proofs.Chains.{appended}
 use Rattle.relay_service.specs.Stats.{amount_members}
 use Rattle.relay_service.proofs.stats.push_amounts.Goals as goal
 

@@ -1,4 +1,4 @@
-use Rattle.view_json.proofs.Chains.{appended}
+use Rattle.otlp_json.proofs.Chains.{appended}
 use Rattle.relay_service.specs.Stats.{amount_members, stats_tokens}
 use Rattle.relay_service.proofs.stats.push_report.Goals as goal
 

@@ -1,5 +1,5 @@
 use Rattle.view_json.specs.Lists.{evicted_member}
-use Rattle.view_json.proofs.Chains.{appended}
+use Rattle.otlp_json.proofs.Chains.{appended}
 use Rattle.view_json.proofs.list.push_evicted.Goals as goal
 
 pub returns-clause-tokens : goal.returns-clause-tokens

@@ -1,7 +1,7 @@
 use Rattle.std.proofs.Common.{◌++◌, ◌∙◌, ap, codes}
 use Rattle.view_json.specs.Lists.{name_members}
-use Rattle.view_json.specs.Seen.{hex_member}
-use Rattle.view_json.proofs.Chains.{appended}
+use Rattle.otlp_json.specs.Seen.{hex_member}
+use Rattle.otlp_json.proofs.Chains.{appended}
 use Rattle.view_json.proofs.list.push_names.Goals as goal
 
 pub returns-clause-tokens : goal.returns-clause-tokens

@@ -1,5 +1,5 @@
 use Rattle.view_json.specs.Lists.{summary_tokens}
-use Rattle.view_json.proofs.Chains.{appended}
+use Rattle.otlp_json.proofs.Chains.{appended}
 use Rattle.view_json.proofs.list.push_summary.Goals as goal
 
 pub returns-clause-tokens : goal.returns-clause-tokens

@@ -1,5 +1,5 @@
 use Rattle.view_json.specs.Lists.{trace_counts}
-use Rattle.view_json.proofs.Chains.{appended}
+use Rattle.otlp_json.proofs.Chains.{appended}
 use Rattle.view_json.proofs.list.push_trace_counts.Goals as goal
 
 pub returns-clause-tokens : goal.returns-clause-tokens

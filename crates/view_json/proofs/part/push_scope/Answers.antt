@@ -1,8 +1,8 @@
 use Rattle.std.proofs.Common.{codes}
-use Rattle.view_json.specs.Seen.{number_member, seen, text_member}
+use Rattle.otlp_json.specs.Seen.{number_member, seen, text_member}
 use Rattle.view_json.specs.Spans.{scope_member}
 use Rattle.view_json.specs.Values.{attributes_member}
-use Rattle.view_json.proofs.Chains.{appended, last, named}
+use Rattle.otlp_json.proofs.Chains.{appended, last, named}
 use Rattle.view_json.proofs.part.push_scope.Goals as goal
 
 pub returns-clause-seen : goal.returns-clause-seen

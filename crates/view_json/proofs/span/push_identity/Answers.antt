@@ -1,7 +1,7 @@
 use Rattle.std.proofs.Common.{codes}
-use Rattle.view_json.specs.Seen.{hex_member, number_member, seen, text_member}
+use Rattle.otlp_json.specs.Seen.{hex_member, number_member, seen, text_member}
 use Rattle.view_json.specs.Spans.{identity_members}
-use Rattle.view_json.proofs.Chains.{appended, named}
+use Rattle.otlp_json.proofs.Chains.{appended, named}
 use Rattle.view_json.proofs.span.push_identity.Goals as goal
 
 pub returns-clause-seen : goal.returns-clause-seen

@@ -1,6 +1,6 @@
 use Rattle.std.proofs.Common.{◌≡◌, ◌++◌, drop}
 use Rattle.std.specs.List.{flat_map}
-use Rattle.view_json.specs.Seen.{seen}
+use Rattle.otlp_json.specs.Seen.{seen}
 use Rattle.view_json.specs.Spans.{link_seen}
 use Rattle.view_json.proofs.span.push_links.Given as goal
 

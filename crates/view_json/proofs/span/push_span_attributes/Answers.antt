@@ -1,8 +1,8 @@
 use Rattle.std.proofs.Common.{codes}
-use Rattle.view_json.specs.Seen.{number_member, seen}
+use Rattle.otlp_json.specs.Seen.{number_member, seen}
 use Rattle.view_json.specs.Spans.{attribute_members}
 use Rattle.view_json.specs.Values.{attributes_member}
-use Rattle.view_json.proofs.Chains.{appended, named}
+use Rattle.otlp_json.proofs.Chains.{appended, named}
 use Rattle.view_json.proofs.span.push_span_attributes.Goals as goal
 
 pub returns-clause-seen : goal.returns-clause-seen

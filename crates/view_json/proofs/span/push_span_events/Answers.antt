@@ -1,8 +1,8 @@
 use Rattle.std.proofs.Common.{codes}
 use Rattle.std.specs.List.{flat_map}
-use Rattle.view_json.specs.Seen.{number_member, seen}
+use Rattle.otlp_json.specs.Seen.{number_member, seen}
 use Rattle.view_json.specs.Spans.{event_members, event_seen}
-use Rattle.view_json.proofs.Chains.{appended, named}
+use Rattle.otlp_json.proofs.Chains.{appended, named}
 use Rattle.view_json.proofs.span.push_span_events.Goals as goal
 
 pub returns-clause-seen : goal.returns-clause-seen

@@ -1,7 +1,7 @@
 use Rattle.std.proofs.Common.{codes, SFits, rules, to_z-of_z, w32}
-use Rattle.view_json.specs.Seen.{seen, signed_member, text_member}
+use Rattle.otlp_json.specs.Seen.{seen, signed_member, text_member}
 use Rattle.view_json.specs.Spans.{status_member}
-use Rattle.view_json.proofs.Chains.{appended, last, named}
+use Rattle.otlp_json.proofs.Chains.{appended, last, named}
 use Rattle.view_json.proofs.span.push_status.Goals as goal
 
 pub returns-clause-seen : goal.returns-clause-seen

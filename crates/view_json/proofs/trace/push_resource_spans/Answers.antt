@@ -1,7 +1,7 @@
 use Rattle.std.proofs.Common.{codes}
-use Rattle.view_json.specs.Seen.{seen, text_member}
+use Rattle.otlp_json.specs.Seen.{seen, text_member}
 use Rattle.view_json.specs.Spans.{resource_spans_seen}
-use Rattle.view_json.proofs.Chains.{appended, last, named}
+use Rattle.otlp_json.proofs.Chains.{appended, last, named}
 use Rattle.view_json.proofs.trace.push_resource_spans.Goals as goal
 
 pub returns-clause-seen : goal.returns-clause-seen

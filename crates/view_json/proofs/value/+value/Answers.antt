@@ -3,11 +3,11 @@ use Rattle.std.specs.List.{flat_map}
 use Rattle.otlp_read.specs.declared.any_value.AnyValue.{Array, Pairs, Text}
 use Rattle.trace_store.specs.Sizes.{pair_bytes}
 use Rattle.trace_store.proofs.SizeSteps.{array_larger, pairs_larger, value_smaller}
-use Rattle.view_json.specs.Seen.{braces, seen, text_member}
+use Rattle.otlp_json.specs.Seen.{braces, seen, text_member}
 use Rattle.view_json.specs.Values.{member_seen, nested, nested_back, nested_front, pair_seen}
 use Rattle.view_json.specs.Values.{pair_text, value_seen}
 use Rattle.view_json.proofs.Views.{array_seen, given, left_out, pairs_seen, text_seen, told}
-use Rattle.view_json.proofs.Chains.{appended, last, list_written, next_written, written_is}
+use Rattle.otlp_json.proofs.Chains.{appended, last, list_written, next_written, written_is}
 use Rattle.view_json.proofs.value.+value.Goals as goal
 
 pub push_member-push_array-requires : goal.push_member-push_array-requires

@@ -2,7 +2,7 @@ use Rattle.std.proofs.Common.{◌≡◌, ◌+◌, ◌*◌, ◌++◌, drop}
 use Rattle.std.specs.Prelude.{sum_by}
 use Rattle.std.specs.List.{flat_map}
 use Rattle.trace_store.specs.Sizes.{pair_bytes, value_bytes}
-use Rattle.view_json.specs.Seen.{seen}
+use Rattle.otlp_json.specs.Seen.{seen}
 use Rattle.view_json.specs.Values.{pair_seen, value_seen}
 use Rattle.view_json.proofs.value.+value.Given as goal
 

@@ -1,5 +1,5 @@
-use Rattle.view_json.specs.Seen.{seen}
-use Rattle.view_json.proofs.Chains.{last}
+use Rattle.otlp_json.specs.Seen.{seen}
+use Rattle.otlp_json.proofs.Chains.{last}
 use Rattle.view_json.proofs.value.begin_nested.Goals as goal
 
 pub returns-clause-seen : goal.returns-clause-seen

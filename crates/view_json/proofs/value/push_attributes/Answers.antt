@@ -1,8 +1,8 @@
 use Rattle.std.proofs.Common.{◌∙◌, ◌++◌, ◌∷◌, [], ap, codes}
 use Rattle.json.specs.Token.{begin_array, end_array, key}
-use Rattle.view_json.specs.Seen.{Other, seen}
+use Rattle.otlp_json.specs.Seen.{Other, seen}
 use Rattle.view_json.specs.Values.{member_seen, pair_seen, pair_text}
-use Rattle.view_json.proofs.Chains.{list_written, next_written}
+use Rattle.otlp_json.proofs.Chains.{list_written, next_written}
 use Rattle.view_json.proofs.value.push_attributes.Goals as goal
 
 pub loop-key-preserved : goal.loop-key-preserved

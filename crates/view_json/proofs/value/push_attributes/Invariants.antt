@@ -1,6 +1,6 @@
 use Rattle.std.proofs.Common.{◌≡◌, ◌++◌, drop}
 use Rattle.std.specs.List.{flat_map}
-use Rattle.view_json.specs.Seen.{seen}
+use Rattle.otlp_json.specs.Seen.{seen}
 use Rattle.view_json.specs.Values.{pair_seen}
 use Rattle.view_json.proofs.value.push_attributes.Given as goal
 

@@ -1,6 +1,6 @@
 use Rattle.std.proofs.Common.{◌∙◌, ap, codes}
-use Rattle.view_json.specs.Seen.{seen, text_member}
-use Rattle.view_json.proofs.Chains.{written_is}
+use Rattle.otlp_json.specs.Seen.{seen, text_member}
+use Rattle.otlp_json.proofs.Chains.{written_is}
 use Rattle.view_json.proofs.value.push_bytes.Goals as goal
 
 pub returns-clause-seen : goal.returns-clause-seen

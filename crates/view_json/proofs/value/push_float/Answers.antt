@@ -5,8 +5,8 @@ use Rattle.std.proofs.lemmas.Bool.{lt-ltb, le-ltb}
 use Rattle.std.proofs.lemmas.Float.{T_from_false}
 use lib.Ieee.Bits.{nan_bits_above}
 use Rattle.json.specs.Token.{string}
-use Rattle.view_json.specs.Seen.{float_seen}
-use Rattle.view_json.proofs.Chains.{written_seen}
+use Rattle.otlp_json.specs.Seen.{float_seen}
+use Rattle.otlp_json.proofs.Chains.{written_seen}
 use Rattle.view_json.proofs.Doubles.{minus_seen, nan_at, nan_seen, number_written, plus_seen}
 use Rattle.view_json.proofs.value.push_float.Goals as goal
 

@@ -1,7 +1,7 @@
 use Rattle.std.proofs.Common.{ap, codes, to_z-of_z}
 use Rattle.std.specs.Fmt.{signed_decimal}
-use Rattle.view_json.specs.Seen.{seen, text_member}
-use Rattle.view_json.proofs.Chains.{written_is}
+use Rattle.otlp_json.specs.Seen.{seen, text_member}
+use Rattle.otlp_json.proofs.Chains.{written_is}
 use Rattle.view_json.proofs.value.push_int.Goals as goal
 
 pub returns-clause-seen : goal.returns-clause-seen

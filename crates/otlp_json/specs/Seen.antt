@@ -66,6 +66,7 @@ long_member name n = text_member name (decimal n)
 abbrev pub number_member : List ℕ → ℕ → List Token
 number_member name n = key name ∷ number (decimal n) ∷ []
 
+-- a member whose value is a number with a sign
 abbrev pub signed_member : List ℕ → ℤ → List Token
 signed_member name n = key name ∷ number (signed_decimal n) ∷ []
 

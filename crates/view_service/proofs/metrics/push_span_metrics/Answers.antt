@@ -1,7 +1,7 @@
 use Rattle.std.proofs.Common.{string_bytes}
-use Rattle.view_json.specs.Metrics.{span_metrics}
-use Rattle.view_json.proofs.Chains.{appended}
-use Rattle.view_json.proofs.metrics.push_span_metrics.Goals as goal
+use Rattle.view_service.specs.Metrics.{span_metrics}
+use Rattle.otlp_json.proofs.Chains.{appended}
+use Rattle.view_service.proofs.metrics.push_span_metrics.Goals as goal
 
 pub returns : goal.returns
 unfolding span_metrics

@@ -2,23 +2,8 @@
 use Rattle.std.specs.Prelude.{ℕ, Option, Some, None, List, [], ◌∷◌, ◌++◌, codes, decimal}
 use Rattle.std.specs.List.{flat_map}
 use Rattle.view_json.specs.declared.list.Stats.{Stats}
-use Rattle.view_json.specs.declared.metrics.Answered.{Answered}
-
--- what a metric is: a line, with a line feed (10) at its end
-unfoldable pub help_text : List ℕ → List ℕ → List ℕ
-help_text name help = codes "# HELP " ++ name ++ codes " " ++ help ++ 10 ∷ []
-
--- its type
-unfoldable pub type_text : List ℕ → List ℕ → List ℕ
-type_text name type = codes "# TYPE " ++ name ++ codes " " ++ type ++ 10 ∷ []
-
--- one of its numbers, where it has this name or these labels
-unfoldable pub sample_text : List ℕ → ℕ → List ℕ
-sample_text name n = name ++ codes " " ++ decimal n ++ 10 ∷ []
-
--- a metric of one number
-unfoldable pub metric_text : List ℕ → List ℕ → List ℕ → ℕ → List ℕ
-metric_text name help type n = help_text name help ++ type_text name type ++ sample_text name n
+use Rattle.post_body.specs.Metrics.{help_text, metric_text, sample_text, type_text}
+use Rattle.view_service.specs.declared.metrics.Answered.{Answered}
 
 -- how many answers had a status, whose number is between two `"` (34)
 unfoldable pub answered_text : Answered → List ℕ

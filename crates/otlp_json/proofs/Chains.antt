@@ -7,7 +7,7 @@ use Rattle.std.proofs.Math.ListN.{get_or}
 use Rattle.std.proofs.Math.Seq.{drop-cons}
 use Rattle.std.proofs.lemmas.List.{map-append}
 use Rattle.json.specs.Token.{Token}
-use Rattle.view_json.specs.Seen.{Seen, seen, seen_of}
+use Rattle.otlp_json.specs.Seen.{Seen, seen, seen_of}
 
 -- Two lists that are appended one after the other are one that is appended.
 pub appended : {X : Type 0} (s0 s1 s2 a b : List X) → s1 ≡ s0 ++ a → s2 ≡ s1 ++ b

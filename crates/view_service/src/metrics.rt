@@ -2,12 +2,12 @@
 
 ghost use Rattle.std.specs.Prelude.{◌≡◌, ◌++◌, OnOk, string_bytes};
 ghost use Rattle.std.specs.List.{flat_map};
-ghost use Rattle.view_json.specs.Metrics.{answer_metrics, answered_text, help_text, metric_text};
-ghost use Rattle.view_json.specs.Metrics.{metrics_text, pending_metric, sample_text, span_metrics};
-ghost use Rattle.view_json.specs.Metrics.{trace_metrics, type_text};
+ghost use Rattle.view_service.specs.Metrics.{answer_metrics, answered_text, metrics_text};
+ghost use Rattle.view_service.specs.Metrics.{pending_metric, span_metrics, trace_metrics};
 
-use crate::list::Stats;
+use post_body::{push_help, push_metric, push_sample, push_type};
 use std::alloc::{AllocError, Allocator};
+use view_json::Stats;
 
 /// How many answers had a status.
 #[derive(Clone, Copy, Debug)]
@@ -16,66 +16,6 @@ pub struct Answered {
     pub status: u16,
     /// How many answers.
     pub answers: u64,
-}
-
-/// Appends what a metric is.
-#[tactic(auto, unfolding(crate::specs::Metrics::help_text))]
-fn push_help<A: Allocator>(out: &mut String<A>, name: &str, help: &str) -> Result<(), AllocError>
-    ensures { OnOk result (string_bytes out.new
-        ≡ string_bytes out.old ++ help_text name.now help.now) }
-{
-    out.push_str("# HELP ")?;
-    out.push_str(name)?;
-    out.push_str(" ")?;
-    out.push_str(help)?;
-    out.push('\n')
-}
-
-/// Appends the type of a metric.
-#[tactic(auto, unfolding(crate::specs::Metrics::type_text))]
-fn push_type<A: Allocator>(out: &mut String<A>, name: &str, kind: &str) -> Result<(), AllocError>
-    ensures { OnOk result (string_bytes out.new
-        ≡ string_bytes out.old ++ type_text name.now kind.now) }
-{
-    out.push_str("# TYPE ")?;
-    out.push_str(name)?;
-    out.push_str(" ")?;
-    out.push_str(kind)?;
-    out.push('\n')
-}
-
-/// Appends a number of a metric.
-#[tactic(auto, unfolding(crate::specs::Metrics::sample_text))]
-fn push_sample<A: Allocator>(out: &mut String<A>, name: &str, number: u64) -> Result<(), AllocError>
-    ensures { OnOk result (string_bytes out.new
-        ≡ string_bytes out.old ++ sample_text name.now number) }
-{
-    out.push_str(name)?;
-    out.push_str(" ")?;
-    write!(out, "{number}")?;
-    out.push('\n')
-}
-
-/// Appends a metric of one number: what it is, its type, which is `counter` or `gauge`, and the
-/// number (Prometheus, "Exposition formats", text format 0.0.4).
-///
-/// # Errors
-///
-/// `AllocError` where the text could not be stored. It may then have been appended in part.
-#[tactic(auto, unfolding(crate::specs::Metrics::metric_text))]
-pub fn push_metric<A: Allocator>(
-    out: &mut String<A>,
-    name: &str,
-    help: &str,
-    kind: &str,
-    number: u64,
-) -> Result<(), AllocError>
-    ensures { OnOk result (string_bytes out.new
-        ≡ string_bytes out.old ++ metric_text name.now help.now kind.now number) }
-{
-    push_help(out, name, help)?;
-    push_type(out, name, kind)?;
-    push_sample(out, name, number)
 }
 
 /// Appends how many answers had a status.

@@ -3,8 +3,8 @@
 ghost use Rattle.std.specs.Prelude.{◌≡◌, [], ◌∷◌, ◌++◌, OnOk};
 ghost use Rattle.std.specs.Fmt.{signed_decimal};
 ghost use Rattle.json.specs.Token.{begin_array, begin_object, boolean, end_array, end_object, key};
-ghost use Rattle.view_json.specs.Seen.{Other, hex_member, long_member, number_member, seen};
-ghost use Rattle.view_json.specs.Seen.{signed_member, text_member};
+ghost use Rattle.otlp_json.specs.Seen.{Other, hex_member, long_member, number_member, seen};
+ghost use Rattle.otlp_json.specs.Seen.{signed_member, text_member};
 
 use json::Writer;
 use std::alloc::{AllocError, Allocator};
@@ -84,7 +84,11 @@ pub fn end_list<A: Allocator>(out: &mut Writer<A>) -> Result<(), AllocError>
 }
 
 /// Begins a member.
-pub(crate) fn push_key<A: Allocator>(out: &mut Writer<A>, name: &str) -> Result<(), AllocError>
+///
+/// # Errors
+///
+/// `AllocError` where the text could not be stored. It may then have been written in part.
+pub fn push_key<A: Allocator>(out: &mut Writer<A>, name: &str) -> Result<(), AllocError>
     ensures seen { OnOk result (seen out.new.tokens
         ≡ seen out.old.tokens ++ Other (key name.now) ∷ []) }
     ensures before { out.new.before ≡ out.old.before }
@@ -134,7 +138,11 @@ pub fn push_hex<A: Allocator + Copy>(
 }
 
 /// Writes a member whose value is a number of 64 bits, as a text.
-pub(crate) fn push_long<A: Allocator>(
+///
+/// # Errors
+///
+/// `AllocError` where the text could not be stored. It may then have been written in part.
+pub fn push_long<A: Allocator>(
     out: &mut Writer<A>,
     name: &str,
     number: u64,
@@ -170,7 +178,11 @@ pub fn push_number<A: Allocator>(
 }
 
 /// Writes a member whose value is a number with a sign.
-pub(crate) fn push_signed<A: Allocator>(
+///
+/// # Errors
+///
+/// `AllocError` where the text could not be stored. It may then have been written in part.
+pub fn push_signed<A: Allocator>(
     out: &mut Writer<A>,
     name: &str,
     number: i32,
@@ -186,7 +198,11 @@ pub(crate) fn push_signed<A: Allocator>(
 }
 
 /// Writes a member whose value is a number of 64 bits with a sign, as a text.
-pub(crate) fn push_signed_long<A: Allocator>(
+///
+/// # Errors
+///
+/// `AllocError` where the text could not be stored. It may then have been written in part.
+pub fn push_signed_long<A: Allocator>(
     out: &mut Writer<A>,
     name: &str,
     number: i64,
@@ -200,7 +216,11 @@ pub(crate) fn push_signed_long<A: Allocator>(
 }
 
 /// Writes a member whose value is a truth value.
-pub(crate) fn push_bool<A: Allocator>(
+///
+/// # Errors
+///
+/// `AllocError` where the text could not be stored. It may then have been written in part.
+pub fn push_bool<A: Allocator>(
     out: &mut Writer<A>,
     name: &str,
     truth: bool,

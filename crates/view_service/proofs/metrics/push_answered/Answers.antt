@@ -1,7 +1,7 @@
 use Rattle.std.proofs.Common.{◌≡◌, ◌++◌, ◌∙◌, ap, decimal, lit<, rules, string_bytes}
-use Rattle.view_json.specs.Metrics.{answered_text}
-use Rattle.view_json.proofs.Chains.{appended}
-use Rattle.view_json.proofs.metrics.push_answered.Goals as goal
+use Rattle.view_service.specs.Metrics.{answered_text}
+use Rattle.otlp_json.proofs.Chains.{appended}
+use Rattle.view_service.proofs.metrics.push_answered.Goals as goal
 
 pub returns : goal.returns
 unfolding answered_text

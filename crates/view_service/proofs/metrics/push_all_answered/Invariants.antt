@@ -1,7 +1,7 @@
 use Rattle.std.proofs.Common.{◌≡◌, ◌++◌, drop, string_bytes}
 use Rattle.std.specs.List.{flat_map}
-use Rattle.view_json.specs.Metrics.{answered_text}
-use Rattle.view_json.proofs.metrics.push_all_answered.Given as goal
+use Rattle.view_service.specs.Metrics.{answered_text}
+use Rattle.view_service.proofs.metrics.push_all_answered.Given as goal
 
 -- what is written, and then those that are left, are all
 abbrev pub invariant-loop-one : goal.invariant-loop-one
