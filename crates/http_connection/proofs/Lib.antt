@@ -1,5 +1,2 @@
-mod Fields
-mod Known
 pub mod RunLemmas
-mod Safety
 mod Dates

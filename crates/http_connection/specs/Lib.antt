@@ -1,15 +1,9 @@
 pub mod Connections
-pub mod Denials
-pub mod Formats
-pub mod Hosts
-pub mod Judged
 pub mod Limits
 pub mod Outputs
-pub mod Pages
-pub mod Requests
 pub mod Runs
-pub mod Tallies
 pub mod Texts
 pub mod Turns
 pub mod Stages
 pub mod Dates
+pub mod Heads

@@ -3,9 +3,8 @@
 //! is answered so that the answer arrives.
 //!
 //! A [`Connection`] reads what a [`Service`] has to answer from bytes that the caller reads, and
-//! keeps the bytes that the caller is to write. [`reply`] has what a service of exports says
-//! where it refuses a request, and in what formats it answers. [`say_date`] gives a response the
-//! field `Date`, which a server with a clock sends.
+//! keeps the bytes that the caller is to write. [`say_date`] gives a response the field
+//! `Date`, which a server with a clock sends.
 #![tactic(auto)]
 
 mod connection;
@@ -14,7 +13,6 @@ mod encode;
 mod input;
 mod limits;
 mod output;
-pub mod reply;
 mod service;
 mod steps;
 

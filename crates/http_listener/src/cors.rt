@@ -3,7 +3,7 @@
 ghost use Rattle.std.specs.Prelude.{◌≡◌, option_copied};
 ghost use Rattle.http_listener.specs.CorsFields.{AllowsKnown};
 ghost use Rattle.http_listener.specs.CorsService.{origins_of, path_of, service_of};
-ghost use Rattle.http_connection.specs.Requests.{head_in};
+ghost use Rattle.http_connection.specs.Heads.{head_in};
 
 use crate::cors_fields::allow_origin;
 use crate::origins::Origins;

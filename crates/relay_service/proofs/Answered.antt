@@ -1,10 +1,10 @@
 -- How a post is answered whose outcome is known.
 use Rattle.std.proofs.Common.{◌≡◌, subst, sym}
 use Rattle.http_server.specs.declared.response.Response.{Response}
-use Rattle.http_connection.specs.Denials.{IsDenial, IsSuccess}
-use Rattle.http_connection.specs.declared.reply.denial.Denial.TheVariants as denials
-use Rattle.http_connection.specs.declared.reply.format.Format.{Format}
-use Rattle.post_body.specs.Posts.{IsAnswer}
+use Rattle.otlp_receiver.specs.Denials.{IsDenial, IsSuccess}
+use Rattle.otlp_receiver.specs.declared.reply.denial.Denial.TheVariants as denials
+use Rattle.otlp_receiver.specs.declared.reply.format.Format.{Format}
+use Rattle.otlp_receiver.specs.Posts.{IsAnswer}
 use Rattle.relay_service.specs.Receives.{denial_of}
 use Rattle.relay_service.specs.declared.receive.Outcome.{Outcome}
 use Rattle.relay_service.specs.declared.receive.Outcome.TheVariants as outcomes

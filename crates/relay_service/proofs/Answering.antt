@@ -3,7 +3,7 @@ use Rattle.std.proofs.Common.{◌≡◌, ◌∙◌, ℕ, Bool, List, subst, sym}
 use Rattle.http.specs.declared.request.Parts.{Parts as Head}
 use Rattle.http.specs.declared.request.Request.{Request as HttpRequest}
 use Rattle.http_server.specs.declared.response.Response.{Response}
-use Rattle.post_body.specs.Posts.{post_of}
+use Rattle.otlp_receiver.specs.Posts.{post_of}
 use Rattle.relay_service.specs.Receives.{Keeping, Lacking, Receives}
 use Rattle.relay_service.specs.Serves.{Answers, failed_of, keeper_of, max_body_of}
 use Rattle.relay_service.specs.Shows.{AnswersPage, Naming, Reporting}

@@ -2,7 +2,7 @@
 use Rattle.std.proofs.Common.{◌≡◌, ℕ, List, Ok, Err, Result, subst}
 use Rattle.std.specs.Prelude.{OnErr}
 use Rattle.otlp_serve.specs.Posts.{HttpPost}
-use Rattle.http_connection.specs.declared.reply.denial.Denial.{Denial}
+use Rattle.otlp_receiver.specs.declared.reply.denial.Denial.{Denial}
 use Rattle.relay_service.specs.Receives.{Keeping, Keeps, Lacking, Receives, ReceivesContent}
 use Rattle.relay_service.specs.declared.receive.Outcome.{Outcome}
 use Rattle.relay_service.specs.declared.receive.Outcome.TheVariants as outcomes

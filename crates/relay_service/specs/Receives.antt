@@ -2,13 +2,13 @@
 -- for byte, and only there. (OTLP Specification, OTLP/HTTP Request and OTLP/HTTP Response)
 use Rattle.std.specs.Prelude.{◌≡◌, ◌⊎◌, ℕ, true, false, Bool, List, Option, Some, None}
 use Rattle.otlp_serve.specs.Posts.{HttpPost}
-use Rattle.http_connection.specs.declared.reply.denial.Denial.{Denial}
-use Rattle.http_connection.specs.declared.reply.denial.Denial.TheVariants as denials
+use Rattle.otlp_receiver.specs.declared.reply.denial.Denial.{Denial}
+use Rattle.otlp_receiver.specs.declared.reply.denial.Denial.TheVariants as denials
 use Rattle.model_body.specs.Names.{IsReadable}
-use Rattle.post_body.specs.Posts.{HasContent, IsDenied, IsTurnedAway}
-use Rattle.post_body.specs.Reads.{IsUnread, is_above}
-use Rattle.post_body.specs.declared.content.Undecoded.TheVariants as undecoded
-use Rattle.post_body.specs.declared.reading.Unread.TheVariants as reasons
+use Rattle.otlp_receiver.specs.Posts.{HasContent, IsDenied, IsTurnedAway}
+use Rattle.otlp_receiver.specs.Reads.{IsUnread, is_above}
+use Rattle.otlp_receiver.specs.declared.content.Undecoded.TheVariants as undecoded
+use Rattle.otlp_receiver.specs.declared.reading.Unread.TheVariants as reasons
 use Rattle.relay_service.specs.declared.receive.Outcome.{Outcome}
 use Rattle.relay_service.specs.declared.receive.Outcome.TheVariants as outcomes
 

@@ -6,11 +6,11 @@ use Rattle.http.specs.declared.request.Parts.{Parts as Head}
 use Rattle.http_server.specs.declared.response.Response.{Response}
 use Rattle.http_uri.specs.Uri.{uri_path}
 use Rattle.json.specs.Lex.{tokens}
-use Rattle.http_connection.specs.Denials.{IsDenial}
-use Rattle.http_connection.specs.Pages.{IsPage, is_read}
-use Rattle.http_connection.specs.Requests.{denial_format}
-use Rattle.http_connection.specs.declared.reply.denial.Denial.TheVariants as denials
-use Rattle.http_connection.specs.declared.reply.format.Format.TheVariants as formats
+use Rattle.otlp_receiver.specs.Denials.{IsDenial}
+use Rattle.otlp_receiver.specs.Pages.{IsPage, is_read}
+use Rattle.otlp_receiver.specs.Requests.{denial_format}
+use Rattle.otlp_receiver.specs.declared.reply.denial.Denial.TheVariants as denials
+use Rattle.otlp_receiver.specs.declared.reply.format.Format.TheVariants as formats
 use Rattle.model_body.specs.Names.{LostSpan as LostName}
 use Rattle.relay_service.specs.Lost.{list_tokens}
 use Rattle.relay_service.specs.Stats.{metrics_text, stats_tokens}

@@ -2,7 +2,7 @@
 -- "Exposition formats", text format 0.0.4)
 use Rattle.std.specs.Prelude.{ℕ, List, [], ◌∷◌, ◌++◌, codes}
 use Rattle.json.specs.Token.{Token, begin_object, end_object, key}
-use Rattle.post_body.specs.Metrics.{metric_text}
+use Rattle.otlp_receiver.specs.Metrics.{metric_text}
 use Rattle.otlp_json.specs.Seen.{number_member}
 use Rattle.relay_queue.specs.declared.report.Amounts.{Amounts}
 use Rattle.relay_queue.specs.declared.report.Report.{Report}

@@ -15,9 +15,9 @@ mod service;
 mod show;
 mod stats;
 
-pub use http_connection::reply::{Denial, Format, Hosts, Tallies};
 pub use lost::write_lost;
 pub use metrics::write_metrics;
+pub use otlp_receiver::reply::{Denial, Format, Hosts, Tallies};
 pub use route::{Page, route_of};
 pub use service::{NoPieces, RelayService};
 pub use stats::write_stats;

@@ -3,7 +3,7 @@
 ghost use Rattle.std.specs.Prelude.{◌≡◌, ◌++◌, OnOk, string_bytes};
 ghost use Rattle.relay_service.specs.Stats.{body_metrics, metrics_text, span_metrics};
 
-use post_body::push_metric;
+use otlp_receiver::push_metric;
 use relay_queue::{Amounts, Report};
 use std::alloc::{AllocError, Allocator};
 

@@ -2,23 +2,23 @@
 
 ghost use Rattle.std.specs.Prelude.{◌≡◌, ◌⊎◌, ◌||◌, IfErr, IfOk, OnErr, OnOk, Some, length};
 ghost use Rattle.http_server.specs.Response.{IsBlank};
-ghost use Rattle.http_connection.specs.Denials.{IsSuccess};
+ghost use Rattle.otlp_receiver.specs.Denials.{IsSuccess};
 ghost use Rattle.model_body.specs.Names.{IsReadable, spans_in};
-ghost use Rattle.post_body.specs.Posts.{IsAnswer, post_of};
-ghost use Rattle.post_body.specs.Reads.{IsUnread};
+ghost use Rattle.otlp_receiver.specs.Posts.{IsAnswer, post_of};
+ghost use Rattle.otlp_receiver.specs.Reads.{IsUnread};
 ghost use Rattle.relay_service.specs.Receives.{Collects, Keeps, Receives, ReceivesContent, denial_of};
 ghost use Rattle.relay_service.specs.Receives.{is_failure};
 ghost use Rattle.http.specs.Request.{head_of};
-ghost use Rattle.http_connection.specs.Requests.{denial_format};
+ghost use Rattle.otlp_receiver.specs.Requests.{denial_format};
 
 use bumpalo::Bump;
 use bytes::Bytes;
 use http::Request;
-use http_connection::reply::{
+use http_server::Response;
+use otlp_receiver::reply::{
     Denial, Format, denial_format, denial_response, fill_denial, fill_taken,
 };
-use http_server::Response;
-use post_body::{Undecoded, Unread, content_in, is_above, read_content};
+use otlp_receiver::{Undecoded, Unread, content_in, is_above, read_content};
 use relay_queue::{BodyKeeper, KeepFault};
 use std::alloc::{AllocError, Allocator, Global};
 

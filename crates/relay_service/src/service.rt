@@ -2,9 +2,10 @@
 
 ghost use Rattle.std.specs.Prelude.{◌≡◌, ◌+◌, [], false, min, OnErr, OnOk, option_copied, replicate};
 ghost use Rattle.http_server.specs.Response.{IsBlank};
-ghost use Rattle.http_connection.specs.Denials.{IsDenial};
-ghost use Rattle.http_connection.specs.Requests.{denial_format, head_in};
-ghost use Rattle.http_connection.specs.Tallies.{MOST};
+ghost use Rattle.otlp_receiver.specs.Denials.{IsDenial};
+ghost use Rattle.http_connection.specs.Heads.{head_in};
+ghost use Rattle.otlp_receiver.specs.Requests.{denial_format};
+ghost use Rattle.otlp_receiver.specs.Tallies.{MOST};
 ghost use Rattle.relay_service.specs.Serves.{Answers, HasAnswered, failed_of, hosts_of, keeper_of};
 ghost use Rattle.relay_service.specs.Serves.{max_body_of, tally_of};
 
@@ -12,12 +13,12 @@ use crate::receive::{collect, either, is_failure, receive};
 use crate::show::Viewer;
 use bytes::Bytes;
 use http::Request;
-use http_connection::reply::{
+use http_connection::{Gathers, Pieces, Refusal, Service};
+use http_server::Response;
+use otlp_receiver::reply::{
     Denial, Hosts, Tallies, denial_by, denial_format, fill_denial, fill_options, head_denial,
     is_export_path, path_of,
 };
-use http_connection::{Gathers, Pieces, Refusal, Service};
-use http_server::Response;
 use relay_queue::BodyKeeper;
 use std::alloc::{AllocError, Global};
 

@@ -3,10 +3,10 @@
 ghost use Rattle.std.specs.Prelude.{◌≡◌, ◌++◌, ◌∷◌, [], IfOk, OnOk};
 ghost use Rattle.http.specs.Request.{head_of};
 ghost use Rattle.http_server.specs.Response.{IsBlank};
-ghost use Rattle.http_connection.specs.Pages.{IsPage};
+ghost use Rattle.otlp_receiver.specs.Pages.{IsPage};
 ghost use Rattle.relay_service.specs.Shows.{AnswersPage, ShowsPage, health_code, health_words};
 ghost use Rattle.relay_service.specs.Stats.{metrics_text};
-ghost use Rattle.http_connection.specs.declared.reply.format.Format.TheVariants as formats;
+ghost use Rattle.otlp_receiver.specs.declared.reply.format.Format.TheVariants as formats;
 ghost use Rattle.relay_service.specs.declared.route.Page.TheVariants as pages;
 
 use crate::lost::write_lost;
@@ -16,10 +16,10 @@ use crate::route::{Page, route_of};
 use crate::stats::write_stats;
 use bytes::Bytes;
 use http::{Request, StatusCode};
-use http_connection::reply::{
+use http_server::Response;
+use otlp_receiver::reply::{
     Denial, Format, denial_format, fill_denial, fill_page, is_read, path_of,
 };
-use http_server::Response;
 use relay_queue::{BodyKeeper, Report};
 use std::alloc::{AllocError, Global};
 

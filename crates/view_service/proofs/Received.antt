@@ -3,13 +3,13 @@ use Rattle.std.proofs.Common.{◌≡◌, ℕ, List, Some, None, refl, subst}
 use Rattle.http.specs.Request.{head_of}
 use Rattle.http.specs.declared.request.Request.{Request}
 use Rattle.http_server.specs.declared.response.Response.{Response}
-use Rattle.http_connection.specs.Denials.{IsDenial}
-use Rattle.http_connection.specs.Requests.{denial_format}
-use Rattle.http_connection.specs.declared.reply.denial.Denial.{Denial}
-use Rattle.http_connection.specs.declared.reply.denial.Denial.TheVariants as denials
-use Rattle.http_connection.specs.declared.reply.format.Format.{Format}
-use Rattle.post_body.specs.Contents.{TakesMemory}
-use Rattle.post_body.specs.Posts.{HasContent, IsAnswer, IsDenied, post_of, refusal_of_post}
+use Rattle.otlp_receiver.specs.Denials.{IsDenial}
+use Rattle.otlp_receiver.specs.Requests.{denial_format}
+use Rattle.otlp_receiver.specs.declared.reply.denial.Denial.{Denial}
+use Rattle.otlp_receiver.specs.declared.reply.denial.Denial.TheVariants as denials
+use Rattle.otlp_receiver.specs.declared.reply.format.Format.{Format}
+use Rattle.otlp_receiver.specs.Contents.{TakesMemory}
+use Rattle.otlp_receiver.specs.Posts.{HasContent, IsAnswer, IsDenied, post_of, refusal_of_post}
 use Rattle.view_service.specs.Receives.{AnswersContent, AnswersExport, Giving, Keeping, Lacking}
 use Rattle.view_service.specs.Receives.{Receives}
 

@@ -2,7 +2,7 @@
 use Rattle.std.specs.Prelude.{ℕ, Option, Some, None, List, [], ◌∷◌, ◌++◌, codes, decimal}
 use Rattle.std.specs.List.{flat_map}
 use Rattle.view_json.specs.declared.list.Stats.{Stats}
-use Rattle.post_body.specs.Metrics.{help_text, metric_text, sample_text, type_text}
+use Rattle.otlp_receiver.specs.Metrics.{help_text, metric_text, sample_text, type_text}
 use Rattle.view_service.specs.declared.metrics.Answered.{Answered}
 
 -- how many answers had a status, whose number is between two `"` (34)

@@ -12,14 +12,14 @@ use Rattle.model_message.specs.Tables
 use Rattle.otlp_read.specs.Requests.{request_view}
 use Rattle.otlp_read.specs.declared.request.Request.{Request}
 use Rattle.otlp_serve.specs.Posts.{HttpPost}
-use Rattle.http_connection.specs.Requests.{denial_format}
-use Rattle.http_connection.specs.declared.reply.denial.Denial.{Denial}
-use Rattle.http_connection.specs.declared.reply.denial.Denial.TheVariants as denials
-use Rattle.http_connection.specs.declared.reply.format.Format.{Format}
-use Rattle.post_body.specs.Contents.{TakesMemory}
-use Rattle.post_body.specs.Posts.{HasContent, IsAnswer, IsDenied, post_of, refusal_of_post}
-use Rattle.post_body.specs.Reads.{IsUnread, is_above, size_of_content}
-use Rattle.post_body.specs.declared.reading.Unread.TheVariants as reasons
+use Rattle.otlp_receiver.specs.Requests.{denial_format}
+use Rattle.otlp_receiver.specs.declared.reply.denial.Denial.{Denial}
+use Rattle.otlp_receiver.specs.declared.reply.denial.Denial.TheVariants as denials
+use Rattle.otlp_receiver.specs.declared.reply.format.Format.{Format}
+use Rattle.otlp_receiver.specs.Contents.{TakesMemory}
+use Rattle.otlp_receiver.specs.Posts.{HasContent, IsAnswer, IsDenied, post_of, refusal_of_post}
+use Rattle.otlp_receiver.specs.Reads.{IsUnread, is_above, size_of_content}
+use Rattle.otlp_receiver.specs.declared.reading.Unread.TheVariants as reasons
 use Rattle.trace_store.specs.SpanParts.{keys_of}
 use Rattle.trace_store.specs.Requests.{IsOfOneTrace, spans_of_parts, spans_of_request}
 use Rattle.trace_store.specs.declared.span.ViewSpan.{ViewSpan}

@@ -6,14 +6,14 @@ use Rattle.http.specs.declared.request.Request.{Request as HttpRequest}
 use Rattle.http_connection.specs.Turns.{Turn, Admitted, Rejected, Answered, Refused}
 use Rattle.http_server.specs.declared.response.Response.{Response}
 use Rattle.http_uri.specs.Uri.{uri_path}
-use Rattle.http_connection.specs.Denials.{IsDenial, IsOptions}
-use Rattle.http_connection.specs.Hosts.{allows_head}
-use Rattle.http_connection.specs.Judged.{denial_by, head_denial}
-use Rattle.http_connection.specs.Requests.{asks_for_methods, denial_format, is_export_of_traces}
-use Rattle.http_connection.specs.Requests.{is_export_path}
-use Rattle.http_connection.specs.Tallies.{CountsAnswer, Tally}
-use Rattle.http_connection.specs.declared.reply.denial.Denial.{Denial}
-use Rattle.http_connection.specs.declared.reply.denial.Denial.TheVariants as denials
+use Rattle.otlp_receiver.specs.Denials.{IsDenial, IsOptions}
+use Rattle.otlp_receiver.specs.Hosts.{allows_head}
+use Rattle.otlp_receiver.specs.Judged.{denial_by, head_denial}
+use Rattle.otlp_receiver.specs.Requests.{asks_for_methods, denial_format, is_export_of_traces}
+use Rattle.otlp_receiver.specs.Requests.{is_export_path}
+use Rattle.otlp_receiver.specs.Tallies.{CountsAnswer, Tally}
+use Rattle.otlp_receiver.specs.declared.reply.denial.Denial.{Denial}
+use Rattle.otlp_receiver.specs.declared.reply.denial.Denial.TheVariants as denials
 use Rattle.view_service.specs.Receives.{AnswersExport, Giving, Keeping, Lacking}
 use Rattle.view_service.specs.Shows.{AnswersPage, Drawing, Lending, Writing}
 use Rattle.view_service.specs.declared.service.ViewService.{ViewService}

@@ -5,13 +5,13 @@ use Rattle.std.specs.Prelude.{bytes_eq, Option, Some, None}
 use Rattle.http.specs.declared.request.Parts.{Parts as Head}
 use Rattle.http_server.specs.declared.response.Response.{Response}
 use Rattle.http_uri.specs.Uri.{uri_path}
-use Rattle.http_connection.specs.Denials.{IsDenial}
-use Rattle.http_connection.specs.Pages.{IsPage, is_read}
-use Rattle.http_connection.specs.Requests.{denial_format}
-use Rattle.http_connection.specs.declared.reply.denial.Denial.{Denial}
-use Rattle.http_connection.specs.declared.reply.denial.Denial.TheVariants as denials
-use Rattle.http_connection.specs.declared.reply.format.Format.{Format}
-use Rattle.http_connection.specs.declared.reply.format.Format.TheVariants as formats
+use Rattle.otlp_receiver.specs.Denials.{IsDenial}
+use Rattle.otlp_receiver.specs.Pages.{IsPage, is_read}
+use Rattle.otlp_receiver.specs.Requests.{denial_format}
+use Rattle.otlp_receiver.specs.declared.reply.denial.Denial.{Denial}
+use Rattle.otlp_receiver.specs.declared.reply.denial.Denial.TheVariants as denials
+use Rattle.otlp_receiver.specs.declared.reply.format.Format.{Format}
+use Rattle.otlp_receiver.specs.declared.reply.format.Format.TheVariants as formats
 use Rattle.view_service.specs.Routes.{Names}
 use Rattle.view_service.specs.declared.pages.TraceForm.{TraceForm}
 use Rattle.view_service.specs.declared.pages.TraceForm.TheVariants as forms

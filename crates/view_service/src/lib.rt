@@ -23,9 +23,9 @@ mod site;
 mod site_filter;
 
 pub use filter::TraceFilter;
-pub use http_connection::reply::{Denial, Format, Hosts, Tallies};
 pub use keeper::{Counts, Listed, TraceKeeper};
 pub use metrics::{Answered, write_metrics};
+pub use otlp_receiver::reply::{Denial, Format, Hosts, Tallies};
 pub use page::SitePage;
 pub use pages::{Asked, ListForm, Pages, TraceForm};
 pub use route::{Route, route_of};

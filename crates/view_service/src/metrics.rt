@@ -5,7 +5,7 @@ ghost use Rattle.std.specs.List.{flat_map};
 ghost use Rattle.view_service.specs.Metrics.{answer_metrics, answered_text, metrics_text};
 ghost use Rattle.view_service.specs.Metrics.{pending_metric, span_metrics, trace_metrics};
 
-use post_body::{push_help, push_metric, push_sample, push_type};
+use otlp_receiver::{push_help, push_metric, push_sample, push_type};
 use std::alloc::{AllocError, Allocator};
 use view_json::Stats;
 

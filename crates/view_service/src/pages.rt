@@ -5,7 +5,7 @@ ghost use Rattle.std.specs.Prelude.{◌≡◌, ℕ, IfOk, List, ⊤};
 use crate::filter::TraceFilter;
 use crate::keeper::{Counts, Listed};
 use http_connection::Pieces;
-use http_connection::reply::Tallies;
+use otlp_receiver::reply::Tallies;
 use std::alloc::AllocError;
 
 /// How a list of traces is shown.

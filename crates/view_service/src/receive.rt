@@ -2,18 +2,18 @@
 
 ghost use Rattle.std.specs.Prelude.{◌≡◌, ◌<◌, All, IfErr, IfOk, IsErrOf, OnErr, OnOk, length};
 ghost use Rattle.http_server.specs.Response.{IsBlank};
-ghost use Rattle.http_connection.specs.Denials.{IsDenial};
-ghost use Rattle.post_body.specs.Reads.{IsUnread, size_of_content};
+ghost use Rattle.otlp_receiver.specs.Denials.{IsDenial};
+ghost use Rattle.otlp_receiver.specs.Reads.{IsUnread, size_of_content};
 ghost use Rattle.view_service.specs.Receives.{AnswersContent, AnswersExport, HasParts};
 
 use crate::keeper::TraceKeeper;
 use bytes::Bytes;
 use http::Request;
-use http_connection::reply::{
+use http_server::Response;
+use otlp_receiver::reply::{
     Denial, Format, denial_format, denial_response, fill_denial, fill_taken,
 };
-use http_server::Response;
-use post_body::{Undecoded, Unread, content_in, is_above, read_content, size_of_content};
+use otlp_receiver::{Undecoded, Unread, content_in, is_above, read_content, size_of_content};
 use std::alloc::{AllocError, Global};
 use std::sync::Arc;
 use trace_store::{InsertFault, Part, TraceDigest, ViewSpan, take_apart};

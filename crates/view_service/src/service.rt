@@ -5,8 +5,9 @@ ghost use Rattle.std.specs.Prelude.{codes, min, replicate, option_copied};
 ghost use Rattle.http.specs.Request.{head_of};
 ghost use Rattle.http_server.specs.Response.{IsBlank};
 ghost use Rattle.http_uri.specs.Uri.{uri_path};
-ghost use Rattle.http_connection.specs.Denials.{IsDenial};
-ghost use Rattle.http_connection.specs.Requests.{denial_format, head_in};
+ghost use Rattle.otlp_receiver.specs.Denials.{IsDenial};
+ghost use Rattle.http_connection.specs.Heads.{head_in};
+ghost use Rattle.otlp_receiver.specs.Requests.{denial_format};
 ghost use Rattle.view_service.specs.Serves.{Answers, HasAnswered, hosts_of, keeper_of, pages_of};
 ghost use Rattle.view_service.specs.Serves.{max_body_of, tally_of};
 
@@ -16,12 +17,12 @@ use crate::receive::receive;
 use crate::show::Viewer;
 use bytes::Bytes;
 use http::Request;
-use http_connection::reply::{
+use http_connection::{Refusal, Service};
+use http_server::Response;
+use otlp_receiver::reply::{
     Denial, Hosts, Tallies, denial_by, denial_format, fill_denial, fill_options, head_denial,
     is_export_path, path_of,
 };
-use http_connection::{Refusal, Service};
-use http_server::Response;
 use std::alloc::{AllocError, Global};
 use std::sync::Arc;
 use trace_store::{TraceDigest, ViewSpan};

@@ -3,8 +3,8 @@
 ghost use Rattle.std.specs.Prelude.{◌≡◌, ◌≢◌, [], IfOk, None, OnOk};
 ghost use Rattle.http.specs.Request.{head_of};
 ghost use Rattle.http_server.specs.Response.{IsBlank};
-ghost use Rattle.http_connection.specs.Pages.{IsPage};
-ghost use Rattle.post_body.specs.Posts.{path_of};
+ghost use Rattle.otlp_receiver.specs.Pages.{IsPage};
+ghost use Rattle.otlp_receiver.specs.Posts.{path_of};
 ghost use Rattle.view_service.specs.Routes.{Names};
 ghost use Rattle.view_service.specs.Shows as spec;
 ghost use Rattle.view_service.specs.Shows.{AnswersPage, FitsRoute, ShowsRoute, ShowsTrace};
@@ -15,11 +15,11 @@ use crate::pages::{Asked, ListForm, Pages, TraceForm};
 use crate::route::{Route, route_of};
 use bytes::Bytes;
 use http::{Request, StatusCode};
-use http_connection::reply::{
-    Denial, Format, Tallies, asked_host, denial_format, fill_denial, fill_page, is_read, path_of,
-};
 use http_server::Response;
 use otlp_ids::TraceId;
+use otlp_receiver::reply::{
+    Denial, Format, Tallies, asked_host, denial_format, fill_denial, fill_page, is_read, path_of,
+};
 use std::alloc::{AllocError, Global};
 use std::str;
 use std::sync::Arc;

@@ -4,11 +4,11 @@
 ghost use Rattle.std.specs.Prelude.{◌≡◌, [], ◌∷◌, codes, false, true, Ok};
 ghost use Rattle.model_deflate.specs.Bits.{not_gzip, too_long, truncated};
 ghost use Rattle.model_deflate.specs.Gzip.{gunzip};
-ghost use Rattle.http_connection.specs.declared.reply.denial.Denial.TheVariants as denials;
+ghost use Rattle.otlp_receiver.specs.declared.reply.denial.Denial.TheVariants as denials;
 ghost use Rattle.otlp_json.specs.Bodies.{body_bytes};
 ghost use Rattle.otlp_json.specs.declared.fault.JsonFault.TheVariants as json_faults;
-ghost use Rattle.post_body.specs.Contents.{coding, content_of, denial_by_fault, is_json_post};
-ghost use Rattle.post_body.specs.Contents.{json, of_text, typed};
+ghost use Rattle.otlp_receiver.specs.Contents.{coding, content_of, denial_by_fault, is_json_post};
+ghost use Rattle.otlp_receiver.specs.Contents.{json, of_text, typed};
 ghost use Rattle.worked_sdk.specs.Contents.{coded, of_type};
 
 /// Bodies in no coding, whatever the limit, and in gzip. What a gzip file means is in the worked

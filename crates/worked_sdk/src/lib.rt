@@ -10,7 +10,7 @@
 //! - Requests with spans (`http_client`, `traced_http`): their texts, what their spans say, and the
 //!   queries of URLs without their secrets.
 //! - Settings, the texts of resource attributes and of headers (`otel_settings`).
-//! - What the bodies of posts of spans mean as bytes (`post_body`).
+//! - What the bodies of posts of spans mean as bytes (`otlp_receiver`).
 //! - Sampling by a ratio (`otlp_sampler`): thresholds, trace ids and texts.
 //!
 //! Each function without an argument is a group of examples. Its clauses are the examples, and it

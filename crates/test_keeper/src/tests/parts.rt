@@ -3,7 +3,7 @@ ghost use Rattle.std.specs.Prelude.{◌≡◌, IfOk, IfSome, length};
 ghost use Rattle.model_body.specs.Names.{IsReadable, spans_in};
 ghost use Rattle.spool.specs.Settled.{IsSettled};
 
-use post_body::read_content;
+use otlp_receiver::read_content;
 use relay_queue::{Amounts, BodyConfig, BodyKeeper, BodySender, KeepFault, LostSink, SendConfig};
 use relay_store::{
     Accounted, Closer, Holdings, Keeping, Naming, RelayBlank, RelayParts, RelaySender,

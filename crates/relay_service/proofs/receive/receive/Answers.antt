@@ -1,5 +1,5 @@
 use Rattle.std.proofs.Common.{subst}
-use Rattle.http_connection.specs.Denials.{IsDenial}
+use Rattle.otlp_receiver.specs.Denials.{IsDenial}
 use Rattle.relay_service.proofs.Answered.{failed_answer, kept_answer}
 use Rattle.relay_service.proofs.Unchanged.{on_err, unchanged}
 use Rattle.relay_service.proofs.receive.receive.Goals as goal

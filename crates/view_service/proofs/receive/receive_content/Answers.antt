@@ -1,5 +1,5 @@
 use Rattle.std.proofs.Common.{◌∙◌, refl, sym, Some, None}
-use Rattle.http_connection.specs.declared.reply.denial.Denial.TheVariants as denials
+use Rattle.otlp_receiver.specs.declared.reply.denial.Denial.TheVariants as denials
 use Rattle.view_service.specs.Receives.{ReceivesContent}
 use Rattle.view_service.proofs.receive.receive_content.Goals as goal
 

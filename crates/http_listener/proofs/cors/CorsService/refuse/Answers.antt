@@ -1,5 +1,5 @@
 use Rattle.std.proofs.Common.{option_copied, refl}
-use Rattle.http_connection.specs.Requests.{head_in}
+use Rattle.http_connection.specs.Heads.{head_in}
 use Rattle.http_listener.proofs.cors.CorsService.refuse.Goals as goal
 
 pub returns-clause-ok : goal.returns-clause-ok

@@ -1,5 +1,5 @@
 use Rattle.std.proofs.Common.{◌∙◌, ◌||◌, ap, bytes_eq, codes, refl, sym}
-use Rattle.http_connection.specs.Requests.{is_export_path}
+use Rattle.otlp_receiver.specs.Requests.{is_export_path}
 use Rattle.relay_service.specs.Serves.{Answers, failed_of}
 use Rattle.relay_service.proofs.Answering.{shown_with}
 use Rattle.relay_service.proofs.service.RelayService.fill.Goals as goal

@@ -1,7 +1,7 @@
 use Rattle.std.proofs.Common.{◌∙◌, ap, subst, sym}
-use Rattle.http_connection.specs.Denials.{IsDenial}
-use Rattle.http_connection.specs.Pages.{is_read}
-use Rattle.http_connection.specs.declared.reply.denial.Denial.TheVariants as denials
+use Rattle.otlp_receiver.specs.Denials.{IsDenial}
+use Rattle.otlp_receiver.specs.Pages.{is_read}
+use Rattle.otlp_receiver.specs.declared.reply.denial.Denial.TheVariants as denials
 use Rattle.relay_service.specs.Shows.{AnswersPage, page_of}
 use Rattle.relay_service.proofs.show.Viewer.show.Goals as goal
 

@@ -1,6 +1,6 @@
 use Rattle.std.proofs.Common.{subst}
-use Rattle.http_connection.specs.Pages.{IsPage}
-use Rattle.http_connection.specs.declared.reply.format.Format.TheVariants as formats
+use Rattle.otlp_receiver.specs.Pages.{IsPage}
+use Rattle.otlp_receiver.specs.declared.reply.format.Format.TheVariants as formats
 use Rattle.relay_service.proofs.show.Viewer.show_metrics.Goals as goal
 
 pub returns : goal.returns

@@ -1,5 +1,5 @@
 use Rattle.std.proofs.Common.{◌∙◌, ap, refl, sym}
-use Rattle.http_connection.specs.Requests.{is_export_path}
+use Rattle.otlp_receiver.specs.Requests.{is_export_path}
 use Rattle.view_service.specs.Serves.{Answers}
 use Rattle.view_service.proofs.service.ViewService.fill.Goals as goal
 

@@ -1,5 +1,5 @@
 use Rattle.std.proofs.Common.{◌∙◌, ap, refl, subst, sym}
-use Rattle.http_connection.specs.Denials.{IsDenial}
+use Rattle.otlp_receiver.specs.Denials.{IsDenial}
 use Rattle.view_service.specs.Shows.{AnswersPage, page_denial}
 use Rattle.view_service.proofs.show.Viewer.show.Goals as goal
 

@@ -1,0 +1,6 @@
+mod Contents
+mod ReadingSizes
+mod Refusals
+mod Fields
+mod Known
+mod Safety

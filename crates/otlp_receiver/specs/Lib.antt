@@ -1,0 +1,11 @@
+pub mod Contents
+pub mod Posts
+pub mod Reads
+pub mod Metrics
+pub mod Denials
+pub mod Formats
+pub mod Hosts
+pub mod Judged
+pub mod Pages
+pub mod Tallies
+pub mod Requests

@@ -1,3 +1,0 @@
-mod Contents
-mod ReadingSizes
-mod Refusals

@@ -1,4 +1,0 @@
-pub mod Contents
-pub mod Posts
-pub mod Reads
-pub mod Metrics
