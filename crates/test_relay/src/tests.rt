@@ -1,9 +1,12 @@
-//! The tests, a module for each part, and what they share.
+//! The tests, and what they share.
 
-mod asked;
+mod device;
 mod equal;
-mod keeper;
-mod pages;
-mod posts;
+mod failing;
+mod kept;
 mod refusals;
-mod texts;
+mod relay;
+mod spools;
+mod steps;
+mod threads;
+mod together;

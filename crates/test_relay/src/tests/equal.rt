@@ -1,6 +1,5 @@
 //! Comparisons, each a call of a function of its own: `assert_eq!` in its place is proved with the
-//! body that it is in, which takes ten times as long. Each crate of tests has its own, since a
-//! library may not have functions that end the process.
+//! body that it is in, which takes ten times as long.
 use std::fmt::Debug;
 use std::process::Abort;
 

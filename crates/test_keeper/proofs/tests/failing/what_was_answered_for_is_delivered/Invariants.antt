@@ -1,4 +1,0 @@
-use Rattle.test_keeper.proofs.tests.failing.what_was_answered_for_is_delivered.Given as goal
-
-abbrev pub ghosts-run : goal.ghosts-run
-ghosts-run g a = record { name = a.blank }

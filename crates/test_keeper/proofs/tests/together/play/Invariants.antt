@@ -1,4 +1,0 @@
-use Rattle.test_keeper.proofs.tests.together.play.Given as goal
-
-abbrev pub ghosts-round : goal.ghosts-round
-ghosts-round g a = record { name = a.blank }

@@ -1,6 +1,0 @@
-use Rattle.std.proofs.Common.{◌<◌, ◌^◌}
-use Rattle.std.specs.Prelude.{All}
-use Rattle.test_spool.proofs.tests.changing.numbers_of.Given as goal
-
-abbrev pub invariant-loop-file : goal.invariant-loop-file
-invariant-loop-file l = All (λ number. number < 2 ^ 63) l.numbers.items

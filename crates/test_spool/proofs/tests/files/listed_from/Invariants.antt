@@ -1,6 +1,0 @@
-use Rattle.spool.specs.Settled.{IsSettled}
-use Rattle.test_spool.proofs.tests.files.listed_from.Given as goal
-
-abbrev pub invariant-loop-index : goal.invariant-loop-index
-invariant-loop-index g l =
-    g.D.Device.is_known → IsSettled g.D.Device.files g.D.Device.moment g.D.Device.left_at l.spool

@@ -1,8 +1,0 @@
-//! Comparisons, each a call of a function of its own, which is proved once.
-use std::fmt::Debug;
-use std::process::Abort;
-
-/// Asserts that two values are equal.
-pub(crate) fn assert_equal<T: PartialEq + Debug + Drop>(rt: &impl Abort, left: T, right: T) {
-    assert_eq!(rt; left, right);
-}
