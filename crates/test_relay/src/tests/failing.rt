@@ -95,7 +95,11 @@ fn what_was_answered_for_is_delivered(rt: HostRuntime) {
         let more = sent.len().saturating_sub(answered.len());
         let found = (is_in_order(&answered, &sent), refused <= 1, more <= 2);
         assert_equal(&rt, (calls, found), (calls, (true, true, true)));
-        all = if refused == 0 && more == 0 { all.saturating_add(1) } else { 0 };
+        all = if refused == 0 && more == 0 {
+            all.saturating_add(1)
+        } else {
+            0
+        };
     }
     // Where no call fails all are answered for, and sent once.
     assert_equal(&rt, 0 < all, true);

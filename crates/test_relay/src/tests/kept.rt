@@ -1,9 +1,9 @@
 //! Relays step by step: bodies that are kept in memory, and bodies that are kept in a spool.
-use crate::tests::relay::{FIRST, SECOND};
 use crate::tests::equal::assert_equal;
+use crate::tests::relay::{FIRST, SECOND};
 use crate::tests::steps::{Answer, Step, amounts, follow};
-use relay_store::{Holdings, Tried};
 use relay_queue::{KeepFault, Loss, Report};
+use relay_store::{Holdings, Tried};
 use retry_core::{Cause, Next, Outcome};
 
 /// When a batch without a reply is sent again: a second later, in nanoseconds.
@@ -94,7 +94,10 @@ fn a_refused_body_is_lost_by_name_and_what_is_left_is_given_up(rt: HostRuntime) 
         (Step::Report, Answer::Reported(report)),
         // The newest names, the last one first.
         (Step::List(1), Answer::Listed(34, Some(Loss::Abandoned))),
-        (Step::List(5), Answer::Listed(341_234, Some(Loss::Abandoned))),
+        (
+            Step::List(5),
+            Answer::Listed(341_234, Some(Loss::Abandoned)),
+        ),
     ];
     let _none = follow(rt, rt.alloc(), None, &[refused, delivered, refused], &steps);
 }

@@ -4,11 +4,11 @@ ghost use Rattle.model_body.specs.Names.{IsReadable, spans_in};
 
 use crate::tests::device::TestDevice;
 use otlp_receiver::read_content;
+use relay_queue::{BodyConfig, BodyKeeper, BodySender, KeepFault, LostSink, SendConfig};
 use relay_store::{
     Accounted, Closer, Holdings, Keeping, Naming, RelayBlank, RelayParts, RelaySender,
     SharedKeeper, Tried,
 };
-use relay_queue::{BodyConfig, BodyKeeper, BodySender, KeepFault, LostSink, SendConfig};
 use retry_core::{Fate, Next, Outcome};
 use span_exporter::MemoryExporter;
 use spool::{MemoryFile, Spool, SpoolError};
@@ -205,7 +205,9 @@ pub(crate) fn numbers_sent(rt: &impl Abort, alloc: Global, exporter: &MemoryExpo
     let mut numbers = Vec::new(alloc);
     for attempt in exporter.handed() {
         for found in attempt.body.chunks_exact(9) {
-            let number = byte_at(found, 2).wrapping_mul(256).wrapping_add(byte_at(found, 1));
+            let number = byte_at(found, 2)
+                .wrapping_mul(256)
+                .wrapping_add(byte_at(found, 1));
             numbers.push(number).expect(rt, "memory");
         }
     }

@@ -47,11 +47,7 @@ fn push_listed(out: &mut Vec<u8>, found: &WaitingBodies) -> Result<(), AllocErro
 }
 
 /// Lists the bodies that wait and have this number or a higher one.
-fn listed<D: Device>(
-    alloc: Global,
-    spool: &mut Spool<D>,
-    from: u64,
-) -> Result<Vec<u8>, SpoolError>
+fn listed<D: Device>(alloc: Global, spool: &mut Spool<D>, from: u64) -> Result<Vec<u8>, SpoolError>
     requires { D.is_known → IsSettled D.files D.moment D.left_at spool.old }
     ensures { D.is_known → IsSettled D.files D.moment D.left_at spool.new }
 {

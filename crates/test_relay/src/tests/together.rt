@@ -5,8 +5,8 @@ use crate::tests::device::TestDevice;
 use crate::tests::equal::assert_equal;
 use crate::tests::relay::{FIRST, Relay, SECOND, opened};
 use http_connection::{Connection, Gathers, Limits};
-use relay_store::{Naming, RelayBlank, SharedKeeper};
 use relay_service::{Hosts, NoPieces, RelayService};
+use relay_store::{Naming, RelayBlank, SharedKeeper};
 use std::alloc::{AllocError, Global};
 use std::hash::RandomState;
 use std::marker::Brand;
@@ -134,7 +134,10 @@ fn posts_of_a_round_take_one_sync(rt: HostRuntime) -> Result<(), Fail> {
         // A post that follows another one of its client is kept later.
         ((first, both), (one, two, 4)),
         // A silent client holds up no other one.
-        ((b"POST /v1/traces HTTP/1.1\r\n".as_slice(), first), (zero, one, 3)),
+        (
+            (b"POST /v1/traces HTTP/1.1\r\n".as_slice(), first),
+            (zero, one, 3),
+        ),
     ] {
         assert_equal(&rt, play(rt, alloc, inputs)?, wanted);
     }
