@@ -1,8 +1,8 @@
 //! Large lists, texts and arrays.
 use crate::tests::equal::assert_equal;
-use crate::tests::short_calls::built;
-use crate::tests::spans::only_span;
-use otlp_sampler::AlwaysOn;
+use crate::tests::short_spans::start;
+use crate::tests::spans::{WORD, only_span, words};
+use otlp_sampler::TraceIdRatio;
 use otlp_value::Value;
 use std::alloc::{Allocator, Global};
 use std::process::Abort;
@@ -44,11 +44,11 @@ fn a_thousand_attributes_are_set_as_the_limits_say(rt: HostRuntime) {
     let alloc = rt.alloc();
     let keys = keys(&rt, alloc);
     let pairs = attributes(&rt, alloc, keys.as_slice());
-    let mut span = built(&rt, alloc, AlwaysOn);
+    let mut words = words(&rt, alloc, WORD);
+    let mut span = start(&rt, alloc, alloc, &mut words).expect(&rt, "a span starts");
     let numbers = [7i64; MANY];
     assert_equal(&rt, span.set("db.system", numbers.as_slice()), Ok(()));
     assert_equal(&rt, span.set_all(pairs.as_slice()), Ok(()));
-    assert_equal(&rt, span.event("many", 5, pairs.as_slice()), Ok(()));
     let mut pass = BodyPass::new(alloc, 1).expect(&rt, "memory");
     assert_equal(&rt, span.end(&mut pass, 6), Ended::Queued(0));
     let kept = only_span(&rt, &pass);
@@ -56,11 +56,15 @@ fn a_thousand_attributes_are_set_as_the_limits_say(rt: HostRuntime) {
     let counts = (kept.attributes().len(), kept.dropped_attributes_count());
     assert_equal(&rt, counts, (128, 874));
     assert_equal(&rt, items_of(kept.attributes().first()), Some(MANY));
-    let events = kept.events();
-    assert_eq!(rt; events.len(), 1);
-    let counts = (
-        events[0].attributes.len(),
-        events[0].dropped_attributes_count,
-    );
-    assert_equal(&rt, counts, (128, 872));
+}
+
+#[test]
+fn a_ratio_has_a_hundred_thousand_digits(rt: HostRuntime) {
+    let mut text = String::from_str(rt.alloc(), "0.").expect(&rt, "memory");
+    for _ in 0..100_000 {
+        text.push('1').expect(&rt, "memory");
+    }
+    // It is a little below 1/9, and 2^56 / 9 is 8006399337547548.4.
+    let ratio = TraceIdRatio::read(&text).expect(&rt, "a ratio");
+    assert_equal(&rt, ratio.threshold(), (1 << 56) - 8_006_399_337_547_548);
 }

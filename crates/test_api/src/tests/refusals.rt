@@ -1,59 +1,151 @@
-//! Starts of spans, calls on them, and replays of such calls, to which memory is refused once, at
-//! each place in turn.
-use crate::tests::calls::assert_called;
-use crate::tests::equal::assert_equal;
+//! All that takes memory, made where it is there, and with each call for memory refused in turn.
+use crate::tests::equal::{assert_equal, shown};
+use crate::tests::short_spans;
 use crate::tests::spans::{
-    CALLS, END, START, WORDS, call, limits, only_span, opening, provider, remote, scope, start,
-    words,
+    CALLS, END, START, WORD, call, limits, only_span, opening, provider, remote, scope, text, words,
 };
-use crate::tests::{short_calls, short_spans};
 use linked_list_allocator::LocalHeap;
-use otlp_ids::OutOfMemory;
-use otlp_sampler::AlwaysOn;
-use otlp_span::{Kind, SpanCall, replay};
-use rand_core::Rng;
+use otlp_ids::{OutOfMemory, copy_text};
+use otlp_span::{Kind, Resource, Scope, SpanCall, SpanData, replay};
+use otlp_value::{AttributeList, Limits, Value};
 use std::alloc::{Allocator, Global};
 use std::process::Abort;
 use test_support::FailingAllocator;
-use trace_api::{BodyPass, Ended, Span, StartFault, Tracer};
+use trace_api::{BodyPass, Ended, Span, StartFault};
 
-/// By which of three ways a start and the calls are made.
+/// What is made.
 #[derive(Debug, Clone, Copy, PartialEq, Eq)]
-enum Way {
-    /// `start`, and each call through `Span::call`.
-    Values,
-    /// `start_copied`, and each call by the method of its name.
-    Names,
-    /// The start and the calls of `short_spans`, which copy what they are lent.
-    Lent,
+enum Making {
+    CopiedText,
+    TextValue,
+    NamedScope,
+    CopiedContext,
+    /// A copy of the value of this number.
+    CopiedValue(u32),
+    /// A list of ten attributes.
+    List,
+    /// The resource of a service, with attributes over its own.
+    Resource,
+    /// A pass with room for a span.
+    Pass,
+    /// A child that is started by `start` and called through `Span::call`.
+    CalledSpan,
+    /// A child that is started by `start_copied` and called by the methods of the same names.
+    NamedCalls,
+    /// A child that is started and called by what copies all that it is lent.
+    LentCalls,
+    /// The calls, in a list.
+    Replay,
 }
 
-impl Way {
-    /// How many calls are made.
-    fn calls(self) -> u32 {
-        match self {
-            Way::Values | Way::Names => CALLS,
-            Way::Lent => short_spans::CALLS,
-        }
-    }
-
-    /// The way of a twin, which has the same start and the same calls.
-    fn of_twin(self) -> Way {
-        match self {
-            Way::Values | Way::Names => Way::Values,
-            Way::Lent => Way::Lent,
-        }
-    }
-
-    /// Whether the call of this number may have been made in part where it is refused memory.
-    fn is_in_parts(self, number: u32) -> bool {
-        self == Way::Lent && short_spans::IN_PARTS.contains(&number)
+/// A value of each kind: four whose copies take memory, and six whose copies take none.
+fn value_at<A: Allocator + Copy>(rt: &impl Abort, alloc: A, number: u32) -> Value<A> {
+    match number {
+        0 => Value::Text(text(rt, alloc, "café")),
+        1 => Value::Bools(Vec::from_slice(alloc, &[true, false]).expect(rt, "memory")),
+        2 => Value::Ints(Vec::from_slice(alloc, &[i64::MIN, -1, 7]).expect(rt, "memory")),
+        3 => Value::Texts(texts(rt, alloc)),
+        4 => Value::Bool(true),
+        5 => Value::Int(-7),
+        6 => Value::Text(String::new(alloc)),
+        7 => Value::Texts(Vec::new(alloc)),
+        8 => Value::Bools(Vec::new(alloc)),
+        _ => Value::Ints(Vec::new(alloc)),
     }
 }
 
-/// All that a span has, written.
-fn shown<A: Allocator + Copy>(rt: &impl Abort, alloc: A, span: &Span<A>) -> String<A> {
-    format!(in alloc; "{span:?}").expect(rt, "memory")
+fn texts<A: Allocator + Copy>(rt: &impl Abort, alloc: A) -> Vec<String<A>, A> {
+    let mut texts = Vec::new(alloc);
+    for part in ["one", "", "two"] {
+        texts.push(text(rt, alloc, part)).expect(rt, "memory");
+    }
+    texts
+}
+
+fn copied_value<A: Allocator + Copy>(
+    rt: &impl Abort,
+    alloc: Global,
+    (ample, scarce): (A, A),
+    number: u32,
+) -> Result<String, StartFault> {
+    let copied = value_at(rt, ample, number).copy(scarce)?;
+    Ok(shown(rt, alloc, &copied))
+}
+
+/// How many pairs a list has of eleven that are set, how many it has dropped, and the last one that
+/// it has. The keys are on ample memory.
+fn list<A: Allocator + Copy>(
+    rt: &impl Abort,
+    alloc: Global,
+    (ample, scarce): (A, A),
+) -> Result<String, StartFault> {
+    let limits = Limits {
+        count: 10,
+        value_length: None,
+    };
+    let mut list = AttributeList::new(scarce, limits);
+    for key in ["a", "b", "c", "d", "e", "f", "g", "h", "i", "j", "k"] {
+        list.set(text(rt, ample, key), Value::Int(1))?;
+    }
+    let dropped = list.dropped();
+    let pairs = list.into_pairs();
+    Ok(shown(rt, alloc, &(pairs.len(), dropped, pairs.last())))
+}
+
+/// How many attributes the resource of a service has, and which is the first one and the last one.
+fn resource<A: Allocator + Copy>(
+    rt: &impl Abort,
+    alloc: Global,
+    (ample, scarce): (A, A),
+) -> Result<String, StartFault> {
+    let mut attributes = Vec::new(ample);
+    for (key, value) in [("service.name", "till"), ("a", "1")] {
+        let pair = (text(rt, ample, key), Value::Text(text(rt, ample, value)));
+        attributes.push(pair).expect(rt, "memory");
+    }
+    let made = Resource::service(scarce, "shop")?.with_attributes(scarce, attributes)?;
+    let all = &made.attributes;
+    Ok(shown(rt, alloc, &(all.len(), all.first(), all.last())))
+}
+
+/// What a span that has ended has.
+fn shown_span<A: Allocator>(rt: &impl Abort, alloc: Global, span: &SpanData<A>) -> String {
+    let times = (span.start_time(), span.end_time());
+    let parent = (span.parent_span_id(), span.has_remote_parent());
+    let schema = span.resource().schema_url.as_str();
+    let from = (schema, span.scope().name.as_str());
+    let named = (span.name(), span.kind(), times, parent, from);
+    let attributes = (span.attributes(), span.dropped_attributes_count());
+    let lists = (attributes, span.events(), span.links());
+    shown(rt, alloc, &(named, span.status(), lists))
+}
+
+/// Ends a span, and shows what its pass has then.
+fn end<A: Allocator>(
+    rt: &impl Abort,
+    alloc: Global,
+    span: &mut Span<A>,
+    pass: &mut BodyPass<A>,
+) -> String {
+    assert_equal(rt, span.end(pass, END), Ended::Queued(0));
+    shown_span(rt, alloc, only_span(rt, pass))
+}
+
+fn called_span<A: Allocator + Copy>(
+    rt: &impl Abort,
+    alloc: Global,
+    (ample, scarce): (A, A),
+) -> Result<String, StartFault> {
+    let provider = provider(rt, ample, limits());
+    let tracer = provider.tracer(scope(rt, ample));
+    let (parent, name) = (remote(rt, ample), text(rt, ample, "GET /"));
+    let mut words = words(rt, ample, WORD);
+    let mut pass = BodyPass::new(ample, 1).expect(rt, "memory");
+    let mut span = tracer.start(scarce, &mut words, Some(&parent), name, Kind::Server, START)?;
+    for number in 0..CALLS {
+        span.call(&mut pass, call(rt, ample, number))?;
+    }
+    Ok(end(rt, alloc, &mut span, &mut pass))
 }
 
 /// Makes a call by the method of its name. None of these is an end.
@@ -88,269 +180,215 @@ fn call_by_name<A: Allocator + Copy>(
     Ok(())
 }
 
-/// Makes the call of this number, whose values are on ample memory.
-fn make_call<A: Allocator + Copy>(
+fn named_calls<A: Allocator + Copy>(
     rt: &impl Abort,
-    ample: A,
-    span: &mut Span<A>,
-    number: u32,
-    way: Way,
-) -> Result<(), OutOfMemory> {
-    match way {
-        Way::Names => call_by_name(span, call(rt, ample, number)),
-        Way::Values => {
-            let made = call(rt, ample, number);
-            let mut pass = BodyPass::new(ample, 0).expect(rt, "a pass of no room");
-            assert_equal(rt, span.call(&mut pass, made)?, None);
-            Ok(())
-        }
-        Way::Lent => short_spans::call(span, &remote(rt, ample), number),
+    alloc: Global,
+    (ample, scarce): (A, A),
+) -> Result<String, StartFault> {
+    let provider = provider(rt, ample, limits());
+    let tracer = provider.tracer(scope(rt, ample));
+    let parent = remote(rt, ample);
+    let mut words = words(rt, ample, WORD);
+    let kind = Kind::Server;
+    let mut span = tracer.start_copied(scarce, &mut words, Some(&parent), "GET /", kind, START)?;
+    for number in 0..CALLS {
+        call_by_name(&mut span, call(rt, ample, number))?;
+    }
+    let mut pass = BodyPass::new(ample, 1).expect(rt, "memory");
+    Ok(end(rt, alloc, &mut span, &mut pass))
+}
+
+fn lent_calls<A: Allocator + Copy>(
+    rt: &impl Abort,
+    alloc: Global,
+    (ample, scarce): (A, A),
+) -> Result<String, StartFault> {
+    let mut words = words(rt, ample, WORD);
+    let mut span = short_spans::start(rt, ample, scarce, &mut words)?;
+    let to = remote(rt, ample);
+    for number in 0..short_spans::CALLS {
+        short_spans::call(&mut span, &to, number)?;
+    }
+    let mut pass = BodyPass::new(ample, 1).expect(rt, "memory");
+    Ok(end(rt, alloc, &mut span, &mut pass))
+}
+
+/// What is made of the calls, the end, and a call after it.
+fn replayed<A: Allocator + Copy>(
+    rt: &impl Abort,
+    alloc: Global,
+    (ample, scarce): (A, A),
+) -> Result<String, StartFault> {
+    let mut calls = Vec::new(ample);
+    for number in 0..CALLS {
+        calls.push(call(rt, ample, number)).expect(rt, "memory");
+    }
+    calls.push(SpanCall::End(END)).expect(rt, "memory");
+    calls.push(call(rt, ample, 0)).expect(rt, "memory");
+    let span = replay(scarce, opening(rt, ample), &limits(), calls.as_slice())?;
+    Ok(shown_span(rt, alloc, &span))
+}
+
+/// Makes this on scarce memory, of what is on ample memory, and shows it.
+fn made<A: Allocator + Copy>(
+    rt: &impl Abort,
+    alloc: Global,
+    (ample, scarce): (A, A),
+    making: Making,
+) -> Result<String, StartFault> {
+    match making {
+        Making::CopiedText => Ok(shown(rt, alloc, &copy_text(scarce, "café")?)),
+        Making::TextValue => Ok(shown(rt, alloc, &Value::text(scarce, "café")?)),
+        Making::NamedScope => Ok(shown(rt, alloc, &Scope::named(scarce, "café")?)),
+        Making::CopiedContext => Ok(shown(rt, alloc, &remote(rt, ample).copy(scarce)?)),
+        Making::CopiedValue(number) => copied_value(rt, alloc, (ample, scarce), number),
+        Making::List => list(rt, alloc, (ample, scarce)),
+        Making::Resource => resource(rt, alloc, (ample, scarce)),
+        Making::Pass => Ok(shown(rt, alloc, &BodyPass::new(scarce, 1)?)),
+        Making::CalledSpan => called_span(rt, alloc, (ample, scarce)),
+        Making::NamedCalls => named_calls(rt, alloc, (ample, scarce)),
+        Making::LentCalls => lent_calls(rt, alloc, (ample, scarce)),
+        Making::Replay => replayed(rt, alloc, (ample, scarce)),
     }
 }
 
-/// Makes a call, and where it is refused memory, makes it again. Answers whether it was refused:
-/// the span was then as before, and nothing was kept of the call, unless it is made in parts.
-fn is_call_refused<A: Allocator + Copy>(
-    rt: &impl Abort,
-    heap: &LocalHeap,
-    ample: A,
-    span: &mut Span<A>,
-    number: u32,
-    way: Way,
-) -> bool {
-    let before = shown(rt, ample, span);
-    let used = heap.used();
-    let is_refused = make_call(rt, ample, span, number, way).is_err();
-    if is_refused {
-        if !way.is_in_parts(number) {
-            assert_equal(rt, (number, heap.used()), (number, used));
-            let after = shown(rt, ample, span);
-            assert_equal(rt, (number, after.as_str()), (number, before.as_str()));
-        }
-        make_call(rt, ample, span, number, way).expect(rt, "memory that is not refused again");
+/// What was made, to be compared.
+fn plain(made: &Result<String, StartFault>) -> Result<&str, StartFault> {
+    match made {
+        Ok(text) => Ok(text),
+        Err(fault) => Err(*fault),
     }
+}
+
+/// Makes this while the call for memory of this index is refused, which has to be the answer.
+/// Answers whether there was such a call. Nothing is kept of what is made.
+fn is_refused(
+    rt: &impl Abort,
+    alloc: Global,
+    (making, text): (Making, &str),
+    fail_index: u64,
+) -> bool {
+    let heap = LocalHeap::new(alloc, 65_536).expect(rt, "memory");
+    let ample = FailingAllocator::new(&heap, u64::MAX);
+    let scarce = FailingAllocator::new(&heap, fail_index);
+    let made = made(rt, alloc, (&ample, &scarce), making);
+    let is_refused = scarce.has_failed();
+    let want = if is_refused {
+        Err(StartFault::OutOfMemory)
+    } else {
+        Ok(text)
+    };
+    let place = (making, fail_index);
+    assert_equal(rt, (place, plain(&made)), (place, want));
+    assert_equal(rt, (place, heap.used()), (place, 0));
     is_refused
 }
 
-/// Starts a child of a parent with a trace state on this memory. The word of its identifier is
-/// spent also where it doesn't start, and no other.
-fn start_child<A: Allocator + Copy>(
-    rt: &impl Abort,
-    tracer: &Tracer<'_, AlwaysOn, A>,
-    ample: A,
-    memory: A,
-    way: Way,
-) -> Result<Span<A>, StartFault> {
-    let parent = remote(rt, ample);
-    let mut words = words(rt, ample, &[WORDS[2], 5]);
-    let started = match way {
-        Way::Values => start(rt, tracer, memory, &mut words, Some(&parent), ample),
-        Way::Names => {
-            let kind = Kind::Server;
-            tracer.start_copied(memory, &mut words, Some(&parent), "GET /", kind, START)
-        }
-        Way::Lent => short_spans::start(rt, ample, memory, AlwaysOn, &mut words),
-    };
-    assert_equal(rt, words.next_u64(), 5);
-    started
-}
-
-/// Starts a child, and where that is refused memory, starts it again. Answers whether it was
-/// refused: nothing was then kept of it.
-fn start_at_last<A: Allocator + Copy>(
-    rt: &impl Abort,
-    heap: &LocalHeap,
-    tracer: &Tracer<'_, AlwaysOn, A>,
-    ample: A,
-    scarce: A,
-    way: Way,
-) -> (Span<A>, bool) {
-    let used = heap.used();
-    match start_child(rt, tracer, ample, scarce, way) {
-        Ok(span) => (span, false),
-        Err(fault) => {
-            assert_equal(rt, (fault, heap.used()), (StartFault::OutOfMemory, used));
-            let again = start_child(rt, tracer, ample, scarce, way);
-            (again.expect(rt, "memory that is not refused again"), true)
+/// How many calls for memory are refused, each in its turn, before this is made.
+fn count_refused(rt: &impl Abort, alloc: Global, row: (Making, &str)) -> u64 {
+    for fail_index in 0..100u64 {
+        if !is_refused(rt, alloc, row, fail_index) {
+            return fail_index;
         }
     }
+    100
 }
 
-/// What memory was refused to.
-#[derive(Debug, Clone, Copy, PartialEq, Eq)]
-enum Refused {
-    Start,
-    /// The call of this number.
-    Call(u32),
-    Nothing,
-}
+/// The context of the remote parent.
+const REMOTE: &str = concat!(
+    "SpanContext { trace: TraceId([7, 7, 7, 7, 7, 7, 7, 7, 7, 7, 7, 7, 7, 7, 7, 7]), ",
+    "span: SpanId([25, 26, 27, 28, 29, 30, 31, 32]), flags: TraceFlags(1), remote: true, ",
+    "state: \"k=v\" }",
+);
 
-/// Makes the calls, and answers which of them was refused memory. After each, also after one that
-/// was refused at first, the span is as its twin, which is on ample memory.
-fn make_calls<A: Allocator + Copy>(
-    rt: &impl Abort,
-    heap: &LocalHeap,
-    ample: A,
-    span: &mut Span<A>,
-    twin: &mut Span<A>,
-    way: Way,
-) -> Refused {
-    let mut refused = Refused::Nothing;
-    for number in 0..way.calls() {
-        if is_call_refused(rt, heap, ample, span, number, way) {
-            refused = Refused::Call(number);
-        }
-        make_call(rt, ample, twin, number, way.of_twin()).expect(rt, "memory");
-        let (left, right) = (shown(rt, ample, span), shown(rt, ample, twin));
-        assert_equal(rt, (number, left.as_str()), (number, right.as_str()));
-    }
-    refused
-}
+/// What the calls that `call` gives make of a span.
+const CALLED: &str = concat!(
+    "((\"x\", Server, (1000, 2000), (Some(SpanId([25, 26, 27, 28, 29, 30, 31, 32])), true), ",
+    "(\"urn:resource\", \"library\")), Error(\"x\"), (([(\"a\", Int(1))], 1), ",
+    "[Event { timestamp: 5, name: \"x\", ",
+    "attributes: [(\"k\", Text(\"long\"))], dropped_attributes_count: 0 }, ",
+    "Event { timestamp: 6, name: \"exception\", attributes: ",
+    "[(\"exception.type\", Text(\"E\")), (\"exception.message\", Text(\"x\"))], ",
+    "dropped_attributes_count: 0 }], [Link { span_context: SpanContext { ",
+    "trace: TraceId([7, 7, 7, 7, 7, 7, 7, 7, 7, 7, 7, 7, 7, 7, 7, 7]), ",
+    "span: SpanId([25, 26, 27, 28, 29, 30, 31, 32]), flags: TraceFlags(1), remote: true, ",
+    "state: \"k=v\" }, attributes: [(\"k\", Text(\"long\"))], dropped_attributes_count: 0 }]))",
+);
 
-/// Starts a child on scarce memory, makes the calls and ends it. Answers what was refused.
-fn live_on<A: Allocator + Copy>(
-    rt: &impl Abort,
-    heap: &LocalHeap,
-    ample: A,
-    scarce: A,
-    way: Way,
-) -> Refused {
-    let provider = provider(rt, ample, AlwaysOn, limits());
-    let tracer = provider.tracer(scope(rt, ample));
-    let (mut span, is_refused) = start_at_last(rt, heap, &tracer, ample, scarce, way);
-    let mut twin = start_child(rt, &tracer, ample, ample, way.of_twin()).expect(rt, "memory");
-    let refused = make_calls(rt, heap, ample, &mut span, &mut twin, way);
-    end_and_call(rt, ample, &mut span, way);
-    if is_refused { Refused::Start } else { refused }
-}
+/// What those of `short_spans` make of one.
+const LENT: &str = concat!(
+    "((\"SELECT cart\", Client, (1000, 2000), ",
+    "(Some(SpanId([25, 26, 27, 28, 29, 30, 31, 32])), true), ",
+    "(\"urn:resource\", \"library\")), Error(\"bad\"), (([",
+    "(\"db.system\", Text(\"postgresql\")), (\"db.rows\", Int(3)), ",
+    "(\"db.shards\", Texts([\"eu\", \"us\"])), (\"text\", Text(\"y\")), (\"truth\", Bool(true)), ",
+    "(\"number\", Int(-1)), (\"empty\", Text(\"\")), (\"truths\", Bools([true, false])), ",
+    "(\"numbers\", Ints([1, -2])), (\"lent\", Int(4)), (\"c\", Int(2))], 0), ",
+    "[Event { timestamp: 1500, name: \"cache miss\", ",
+    "attributes: [(\"cache.key\", Text(\"cart:7\"))], dropped_attributes_count: 0 }, ",
+    "Event { timestamp: 5, name: \"miss\", attributes: [], dropped_attributes_count: 0 }, ",
+    "Event { timestamp: 6, name: \"exception\", attributes: ",
+    "[(\"exception.type\", Text(\"E\")), (\"exception.message\", Text(\"x\")), (\"n\", Int(7))], ",
+    "dropped_attributes_count: 0 }], [Link { span_context: SpanContext { ",
+    "trace: TraceId([7, 7, 7, 7, 7, 7, 7, 7, 7, 7, 7, 7, 7, 7, 7, 7]), ",
+    "span: SpanId([25, 26, 27, 28, 29, 30, 31, 32]), flags: TraceFlags(1), remote: true, ",
+    "state: \"k=v\" }, attributes: [(\"messaging.batch\", Int(7))], ",
+    "dropped_attributes_count: 0 }, Link { span_context: SpanContext { ",
+    "trace: TraceId([7, 7, 7, 7, 7, 7, 7, 7, 7, 7, 7, 7, 7, 7, 7, 7]), ",
+    "span: SpanId([25, 26, 27, 28, 29, 30, 31, 32]), flags: TraceFlags(1), remote: true, ",
+    "state: \"k=v\" }, attributes: [], dropped_attributes_count: 0 }]))",
+);
 
-/// Ends a span, and makes the calls again: those after the first end change nothing.
-fn end_and_call<A: Allocator + Copy>(rt: &impl Abort, ample: A, span: &mut Span<A>, way: Way) {
-    let mut pass = BodyPass::new(ample, 1).expect(rt, "memory");
-    assert_equal(rt, span.end(&mut pass, END), Ended::Queued(0));
-    for number in 0..way.calls() {
-        make_call(rt, ample, span, number, way).expect(rt, "memory");
-    }
-    assert_equal(rt, span.end(&mut pass, START), Ended::AlreadyEnded);
-    let kept = only_span(rt, &pass);
-    match way {
-        Way::Values | Way::Names => assert_called(rt, ample, kept),
-        Way::Lent => short_calls::assert_called(rt, ample, kept),
-    }
-}
-
-/// More calls for memory than a start and the calls, or a replay of them, make.
-const MOST: u64 = 64;
-
-/// How often a start, each call and nothing was refused.
-#[derive(Drop)]
-struct Counts {
-    starts: u32,
-    calls: [u32; 14],
-    nothing: u32,
-}
-
-impl Counts {
-    fn count(&mut self, refused: Refused) {
-        match refused {
-            Refused::Start => self.starts = self.starts.saturating_add(1),
-            Refused::Call(number) => {
-                if let Some(count) = self.calls.get_mut(number as usize) {
-                    *count = count.saturating_add(1);
-                }
-            }
-            Refused::Nothing => self.nothing = self.nothing.saturating_add(1),
-        }
-    }
-}
-
-/// Refuses each growth in turn, until none is left, and counts them.
-fn refuse_in_turn(rt: &impl Abort, alloc: Global, way: Way) -> Counts {
-    let heap = LocalHeap::new(alloc, 65_536).expect(rt, "memory");
-    let ample = FailingAllocator::new(&heap, u64::MAX);
-    let mut counts = Counts {
-        starts: 0,
-        calls: [0; 14],
-        nothing: 0,
-    };
-    for fail_index in 0..MOST {
-        let scarce = FailingAllocator::new(&heap, fail_index);
-        let refused = live_on(rt, &heap, &ample, &scarce, way);
-        let is_refused = refused != Refused::Nothing;
-        assert_equal(
-            rt,
-            (fail_index, is_refused),
-            (fail_index, scarce.has_failed()),
-        );
-        assert_equal(rt, (fail_index, heap.used()), (fail_index, 0));
-        counts.count(refused);
-    }
-    counts
-}
-
-#[test]
-fn each_growth_of_a_start_and_of_the_calls_is_refused_in_turn(rt: HostRuntime) {
+/// What is made, how many calls for memory that takes, and what it is.
+const MADE: [(Making, u64, &str); 21] = [
+    (Making::CopiedText, 1, "\"café\""),
+    (Making::TextValue, 1, "Text(\"café\")"),
+    (
+        Making::NamedScope,
+        1,
+        "Scope { name: \"café\", version: \"\", attributes: [], schema_url: \"\" }",
+    ),
+    (Making::CopiedContext, 1, REMOTE),
+    (Making::CopiedValue(0), 1, "Text(\"café\")"),
+    (Making::CopiedValue(1), 1, "Bools([true, false])"),
+    (
+        Making::CopiedValue(2),
+        1,
+        "Ints([-9223372036854775808, -1, 7])",
+    ),
+    (Making::CopiedValue(3), 3, "Texts([\"one\", \"\", \"two\"])"),
+    (Making::CopiedValue(4), 0, "Bool(true)"),
+    (Making::CopiedValue(5), 0, "Int(-7)"),
+    (Making::CopiedValue(6), 0, "Text(\"\")"),
+    (Making::CopiedValue(7), 0, "Texts([])"),
+    (Making::CopiedValue(8), 0, "Bools([])"),
+    (Making::CopiedValue(9), 0, "Ints([])"),
+    // The list has room for eight, and grows once.
+    (Making::List, 2, "(10, 1, Some((\"j\", Int(1))))"),
+    (
+        Making::Resource,
+        // The room of its own attributes, their keys and texts, and the room of all.
+        1 + 4 * 2 + 1,
+        "(5, Some((\"service.name\", Text(\"till\"))), Some((\"a\", Text(\"1\"))))",
+    ),
+    (Making::Pass, 1, "BodyPass { spans: [], dropped: 0 }"),
     // A start takes the trace state twice, the slip and the record, and `start_copied` the name. A
     // call takes the room of its list, once, and of its attributes; an exception two keys, the room
     // of its attributes and its name.
-    let handed = [1, 2, 4, 2, 0, 0, 0, 0, 0, 0, 0, 0, 0, 0];
+    (Making::CalledSpan, 4 + 1 + 2 + 4 + 2, CALLED),
+    (Making::NamedCalls, 5 + 1 + 2 + 4 + 2, CALLED),
     // The start also takes two keys, a text and the room of the list; and of the link its trace
     // state, its pairs with a key, what is kept of them, and its room. A call mostly takes a key,
     // and what its value takes; the list of attributes grows once more.
-    let lent = [12, 2, 1, 1, 1, 2, 3, 1, 3, 1, 8, 1, 1, 1];
-    for (way, starts, calls, nothing) in [
-        (Way::Values, 4, handed, 51),
-        (Way::Names, 5, handed, 50),
-        (Way::Lent, 5 + 4 + 5, lent, 12),
-    ] {
-        let counts = refuse_in_turn(&rt, rt.alloc(), way);
-        let found = (counts.starts, counts.nothing);
-        assert_equal(&rt, (way, found), (way, (starts, nothing)));
-        assert_equal(&rt, counts.calls.as_slice(), calls.as_slice());
-    }
-}
-
-/// The calls, the end, and a call after it.
-fn calls<A: Allocator + Copy>(rt: &impl Abort, alloc: A) -> Vec<SpanCall<A>, A> {
-    let mut calls = Vec::new(alloc);
-    for number in 0..CALLS {
-        calls.push(call(rt, alloc, number)).expect(rt, "memory");
-    }
-    calls.push(SpanCall::End(END)).expect(rt, "memory");
-    calls.push(call(rt, alloc, 0)).expect(rt, "memory");
-    calls
-}
-
-/// Replays the calls on scarce memory. Answers whether that was refused memory.
-fn is_replay_refused<A: Allocator + Copy>(rt: &impl Abort, ample: A, scarce: A) -> bool {
-    let calls = calls(rt, ample);
-    match replay(scarce, opening(rt, ample), &limits(), calls.as_slice()) {
-        Ok(span) => {
-            assert_called(rt, ample, &span);
-            false
-        }
-        Err(OutOfMemory) => true,
-    }
-}
+    (Making::LentCalls, 14 + 38, LENT),
+    // The slip and the record, and of each call its copy and what is kept of it.
+    (Making::Replay, 25, CALLED),
+];
 
 #[test]
-fn each_growth_of_a_replay_is_refused_in_turn(rt: HostRuntime) {
-    let heap = LocalHeap::new(rt.alloc(), 65_536).expect(&rt, "memory");
-    let ample = FailingAllocator::new(&heap, u64::MAX);
-    let mut refused = 0u32;
-    for fail_index in 0..MOST {
-        let scarce = FailingAllocator::new(&heap, fail_index);
-        let is_refused = is_replay_refused(&rt, &ample, &scarce);
-        assert_equal(
-            &rt,
-            (fail_index, is_refused),
-            (fail_index, scarce.has_failed()),
-        );
-        assert_equal(&rt, (fail_index, heap.used()), (fail_index, 0));
-        if is_refused {
-            refused = refused.saturating_add(1);
-        }
+fn each_call_for_memory_is_refused_in_turn(rt: HostRuntime) {
+    for (making, calls, text) in MADE {
+        let refused = count_refused(&rt, rt.alloc(), (making, text));
+        assert_equal(&rt, (making, refused), (making, calls));
     }
-    // The slip and the record, and of each call its copy and what is kept of it.
-    assert_equal(&rt, refused, 25);
 }

@@ -1,7 +1,6 @@
 //! A start with attributes and a link, and the calls after it by number, all by `SpanExt`.
 use crate::tests::spans::{START, provider, remote, scope};
 use otlp_ids::{OutOfMemory, SpanContext};
-use otlp_sampler::Sampler;
 use otlp_span::{Kind, SpanLimits};
 use std::alloc::Allocator;
 use std::process::Abort;
@@ -13,14 +12,13 @@ const MISS: u64 = 1_500;
 
 /// Starts a child of a remote span on this memory, with two attributes and a link. What it is
 /// started with is on ample memory.
-pub(crate) fn start<S: Sampler + Drop, A: Allocator + Copy>(
+pub(crate) fn start<A: Allocator + Copy>(
     rt: &impl Abort,
     ample: A,
     alloc: A,
-    sampler: S,
     words: &mut WordsRng<A>,
 ) -> Result<Span<A>, StartFault> {
-    let provider = provider(rt, ample, sampler, SpanLimits::default());
+    let provider = provider(rt, ample, SpanLimits::default());
     let tracer = provider.tracer(scope(rt, ample));
     let parent = remote(rt, ample);
     let request = SpanRequest {
@@ -49,9 +47,6 @@ fn call_in_turn<A: Allocator + Copy>(query: &mut Span<A>) -> Result<(), OutOfMem
 
 /// How many calls `call` makes.
 pub(crate) const CALLS: u32 = 14;
-
-/// The calls that, where memory is refused, may have been made in part.
-pub(crate) const IN_PARTS: [u32; 2] = [0, 8];
 
 /// Makes the call of this number.
 pub(crate) fn call<A: Allocator + Copy, B: Allocator>(

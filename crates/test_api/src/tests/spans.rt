@@ -1,34 +1,29 @@
-//! What the tests start spans with.
+//! What the tests start spans with, and what they show of one that has ended.
 use otlp_ids::{SpanContext, SpanId, TraceFlags, TraceId};
-use otlp_sampler::Sampler;
+use otlp_sampler::AlwaysOn;
 use otlp_span::{Kind, Open, Resource, Scope, SpanCall, SpanData, SpanLimits, Status};
 use otlp_value::Value;
 use std::alloc::Allocator;
 use std::process::Abort;
 use std::sync::Arc;
-use trace_api::{BodyPass, Provider, Span, StartFault, Tracer, WordsRng};
-
-pub(crate) const TRACE: TraceId = TraceId([1, 2, 3, 4, 5, 6, 7, 8, 9, 10, 11, 12, 13, 14, 15, 16]);
-
-pub(crate) const SPAN: SpanId = SpanId([17, 18, 19, 20, 21, 22, 23, 24]);
-
-/// The words of `TRACE`, and after them the word of `SPAN`.
-pub(crate) const WORDS: [u64; 3] = [0x0102030405060708, 0x090a0b0c0d0e0f10, 0x1112131415161718];
-
-pub(crate) const PARENT_TRACE: TraceId = TraceId([7; 16]);
-
-pub(crate) const PARENT: SpanId = SpanId([25, 26, 27, 28, 29, 30, 31, 32]);
+use trace_api::{BodyPass, Provider, WordsRng};
 
 pub(crate) const START: u64 = 1_000;
 
 pub(crate) const END: u64 = 2_000;
 
+/// The word of a span's identifier.
+pub(crate) const WORD: u64 = 0x1112131415161718;
+
+const PARENT: SpanId = SpanId([25, 26, 27, 28, 29, 30, 31, 32]);
+
 pub(crate) fn text<A: Allocator>(rt: &impl Abort, alloc: A, text: &str) -> String<A> {
     String::from_str(alloc, text).expect(rt, "memory")
 }
 
-pub(crate) fn words<A: Allocator>(rt: &impl Abort, alloc: A, words: &[u64]) -> WordsRng<A> {
-    WordsRng::new(Vec::from_slice(alloc, words).expect(rt, "memory"))
+/// A generator that gives this word and then zeros.
+pub(crate) fn words<A: Allocator>(rt: &impl Abort, alloc: A, word: u64) -> WordsRng<A> {
+    WordsRng::new(Vec::from_slice(alloc, &[word]).expect(rt, "memory"))
 }
 
 /// A resource without attributes.
@@ -54,35 +49,24 @@ pub(crate) fn limits() -> SpanLimits {
     }
 }
 
-/// A provider whose spans have these limits.
-pub(crate) fn provider<S: Sampler + Drop, A: Allocator + Copy>(
+/// A provider whose spans are all sampled and have these limits.
+pub(crate) fn provider<A: Allocator + Copy>(
     rt: &impl Abort,
     alloc: A,
-    sampler: S,
     limits: SpanLimits,
-) -> Provider<S, A> {
-    Provider::new(sampler, resource(rt, alloc), limits)
-}
-
-/// The context of a remote parent, with these flags and this trace state.
-pub(crate) fn context<A: Allocator>(
-    rt: &impl Abort,
-    alloc: A,
-    flags: u8,
-    state: &str,
-) -> SpanContext<A> {
-    SpanContext {
-        trace: PARENT_TRACE,
-        span: PARENT,
-        flags: TraceFlags(flags),
-        remote: true,
-        state: text(rt, alloc, state),
-    }
+) -> Provider<AlwaysOn, A> {
+    Provider::new(AlwaysOn, resource(rt, alloc), limits)
 }
 
 /// The context of a remote parent that is sampled, with a trace state.
 pub(crate) fn remote<A: Allocator>(rt: &impl Abort, alloc: A) -> SpanContext<A> {
-    context(rt, alloc, 1, "k=v")
+    SpanContext {
+        trace: TraceId([7; 16]),
+        span: PARENT,
+        flags: TraceFlags(1),
+        remote: true,
+        state: text(rt, alloc, "k=v"),
+    }
 }
 
 /// What a child of that parent is opened with.
@@ -97,43 +81,6 @@ pub(crate) fn opening<A: Allocator + Copy>(rt: &impl Abort, alloc: A) -> Open<A>
         kind: Kind::Server,
         start: START,
     }
-}
-
-/// Starts a span of a tracer, on memory from elsewhere than its name.
-pub(crate) fn start<S: Sampler, A: Allocator + Copy>(
-    rt: &impl Abort,
-    tracer: &Tracer<'_, S, A>,
-    alloc: A,
-    words: &mut WordsRng<A>,
-    parent: Option<&SpanContext<A>>,
-    ample: A,
-) -> Result<Span<A>, StartFault> {
-    let name = text(rt, ample, "GET /");
-    tracer.start(alloc, words, parent, name, Kind::Server, START)
-}
-
-/// Starts a root with the identifiers `TRACE` and `SPAN`, which this sampler decides on.
-pub(crate) fn start_root<S: Sampler + Drop, A: Allocator + Copy>(
-    rt: &impl Abort,
-    alloc: A,
-    sampler: S,
-) -> Span<A> {
-    let provider = provider(rt, alloc, sampler, limits());
-    let tracer = provider.tracer(scope(rt, alloc));
-    let mut words = words(rt, alloc, &WORDS);
-    let root: Option<SpanContext<A>> = None;
-    let started = start(rt, &tracer, alloc, &mut words, root.as_ref(), alloc);
-    started.expect(rt, "a root starts")
-}
-
-/// The span that a pass has, which is its only one.
-pub(crate) fn only_span<'a, A: Allocator>(
-    rt: &impl Abort,
-    pass: &'a BodyPass<A>,
-) -> &'a SpanData<A> {
-    let spans = pass.spans();
-    assert_eq!(rt; spans.len(), 1);
-    &spans[0]
 }
 
 /// How many calls `call` gives.
@@ -163,7 +110,7 @@ pub(crate) fn call<A: Allocator + Copy>(rt: &impl Abort, alloc: A, number: u32) 
 /// An attribute.
 fn pairs<A: Allocator + Copy>(rt: &impl Abort, alloc: A) -> Vec<(String<A>, Value<A>), A> {
     let mut all = Vec::new(alloc);
-    let value = Value::text(alloc, "long").expect(rt, "memory");
+    let value = Value::Text(text(rt, alloc, "long"));
     all.push((text(rt, alloc, "k"), value)).expect(rt, "memory");
     all
 }
@@ -177,4 +124,14 @@ fn exception<A: Allocator + Copy>(rt: &impl Abort, alloc: A) -> SpanCall<A> {
         timestamp: 6,
         attributes: Vec::new(alloc),
     }
+}
+
+/// The span that a pass has, which is its only one.
+pub(crate) fn only_span<'a, A: Allocator>(
+    rt: &impl Abort,
+    pass: &'a BodyPass<A>,
+) -> &'a SpanData<A> {
+    let spans = pass.spans();
+    assert_eq!(rt; spans.len(), 1);
+    &spans[0]
 }
