@@ -1,8 +1,9 @@
-//! Tests, over public calls alone, of what keeps ended spans until they are exported.
+//! Tests, over public calls alone, of the queue of spans, its ledgers, and its retries.
 //!
-//! The queue (`span_ring`), the ledger of names and the sinks that take them (`drop_ledger`), the
-//! desk that hands out batches (`batch_desk`), and what follows from an attempt to export a batch
-//! (`retry_core`). The crate has no items of its own.
+//! Contracts say what each call answers. What they leave open is here: that memory which is there
+//! is used, that each call for memory may be refused, that none is taken or freed under a lock, how
+//! large queues and ledgers do, and what is written and shown. Desks are also compared with plain
+//! lists. The crate has no items of its own.
 #![tactic(auto)]
 
 #[cfg(test)]

@@ -3,13 +3,10 @@
 mod desk;
 mod driver;
 mod equal;
-mod freed;
-mod ledger;
-mod making;
-mod many_lost;
+mod locked;
+mod names;
 mod plain_desk;
 mod random_calls;
-mod retries;
-mod ring;
-mod sinks;
+mod refusals;
 mod spans;
+mod texts;

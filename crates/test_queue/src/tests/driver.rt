@@ -1,23 +1,13 @@
-//! Desks that are driven by hand. Each call of a desk is in one function, which compares what
-//! is so at each such call.
+//! Desks that are driven by hand. Each call of a desk is in one function, which tests what the
+//! call requires.
 use crate::tests::equal::assert_equal;
-use crate::tests::spans::{Spans, name};
-use batch_desk::{Admitted, Batch, Desk, DeskConfig, Mark, NamedBatch, SettledBatch, Totals};
-use drop_ledger::Ledger;
+use crate::tests::spans::Spans;
+use batch_desk::{Admitted, Batch, Desk, DeskConfig};
 use otlp_span::{Entry, Reason};
 use retry_core::Fate;
-use span_ring::RingFault;
 use std::alloc::{Allocator, Global};
 use std::ops::Range;
 use std::process::Abort;
-
-/// Makes a desk at moment 0.
-pub(crate) fn new_desk<A: Allocator + Copy>(
-    alloc: A,
-    config: DeskConfig,
-) -> Result<Desk<A>, RingFault> {
-    Desk::new(alloc, config, 0)
-}
 
 /// A desk, and what the spans share that it is given.
 #[derive(Drop)]
@@ -30,7 +20,7 @@ impl<A: Allocator + Copy> Driver<A> {
     /// Drives a desk that is made at moment 0.
     pub(crate) fn new(rt: &impl Abort, alloc: A, config: DeskConfig) -> Driver<A> {
         Driver {
-            desk: new_desk(alloc, config).expect(rt, "memory"),
+            desk: Desk::new(alloc, config, 0).expect(rt, "memory"),
             spans: Spans::new(rt, alloc),
         }
     }
@@ -57,36 +47,15 @@ impl<A: Allocator + Copy> Driver<A> {
         }
     }
 
-    pub(crate) fn flush(&mut self) -> Mark {
-        self.desk.flush()
-    }
-
-    pub(crate) fn shutdown(&mut self) -> Mark {
-        self.desk.shutdown()
-    }
-
-    pub(crate) fn is_flushed(&self, mark: Mark) -> bool {
-        self.desk.flushed(mark)
-    }
-
-    pub(crate) fn totals(&self) -> Totals {
-        self.desk.totals()
-    }
-
-    /// Takes a batch where one is due. None is out.
-    pub(crate) fn take_due(&mut self, rt: &impl Abort, now: u64) -> Option<Batch<A>> {
-        let is_due = self.desk.due(now);
-        let taken = self.desk.take(now);
-        assert_equal(rt, taken.is_some(), is_due);
-        taken
+    /// Takes a batch at moment 0, which is due.
+    pub(crate) fn take(&mut self, rt: &impl Abort) -> Batch<A> {
+        self.desk.take(0).expect(rt, "a batch is due")
     }
 
     /// Hands the batch over that is in hand.
     pub(crate) fn hand(&mut self, rt: &impl Abort, batch: &Batch<A>) {
-        assert_equal(rt, self.desk.is_in_hand(batch), true);
         assert_eq!(rt; self.desk.out(), Some((batch.number(), false)));
         self.desk.handed(batch.number());
-        assert_equal(rt, self.desk.is_handed(batch), true);
     }
 
     /// Ends the batch that is out, which was handed, and maybe cleared since.
@@ -95,8 +64,9 @@ impl<A: Allocator + Copy> Driver<A> {
         self.desk.settle(batch, fate);
     }
 
-    /// Ends the batch that is out, which was handed, and whose lost spans are named.
-    pub(crate) fn settle_named(&mut self, rt: &impl Abort, settled: SettledBatch<A>) {
+    /// Names the spans of the batch that is out, which was handed, and ends it as given up.
+    pub(crate) fn give_up(&mut self, rt: &impl Abort, batch: Batch<A>) {
+        let settled = batch.into_settled(Fate::GivenUp);
         assert!(rt; self.desk.can_settle_named(&settled));
         self.desk.settle_named(settled);
     }
@@ -107,74 +77,20 @@ impl<A: Allocator + Copy> Driver<A> {
         self.desk.drop_batch(batch, reason);
     }
 
-    /// Drops the batch that is in hand, whose spans are named.
-    pub(crate) fn drop_named(&mut self, rt: &impl Abort, named: NamedBatch<A>) {
+    /// Names the spans of the batch that is in hand, and drops it as too large.
+    pub(crate) fn drop_named(&mut self, rt: &impl Abort, batch: Batch<A>) {
+        let named = batch.into_named(Reason::TooLarge);
         assert!(rt; self.desk.can_drop(&named));
         self.desk.drop_named(named);
     }
 
-    /// Pops the newest name of the ledger, which has to be this one.
+    /// Pops the newest name of a dropped span, which has to be this one.
     pub(crate) fn pop(&mut self, rt: &impl Abort, want: Option<Entry>) {
         assert_equal(rt, self.desk.pop_entry(), want);
     }
 
-    /// The same of the ledger of lost spans.
+    /// The same of a lost span.
     pub(crate) fn pop_lost(&mut self, rt: &impl Abort, want: Option<Entry>) {
         assert_equal(rt, self.desk.pop_lost(), want);
     }
-
-    /// Asserts how many spans wait, and whether the desk is closed.
-    pub(crate) fn assert_waiting(&self, rt: &impl Abort, waiting: usize, is_closed: bool) {
-        assert_equal(rt, self.desk.waiting(), waiting);
-        assert_equal(rt, self.desk.is_closed(), is_closed);
-    }
-
-    /// Asserts how many names the ledger has, and which is the newest.
-    pub(crate) fn assert_ledger(&self, rt: &impl Abort, len: u64, newest: Option<&Entry>) {
-        assert_names(rt, self.desk.ledger(), len, newest);
-    }
-
-    /// The same of the ledger of lost spans.
-    pub(crate) fn assert_lost(&self, rt: &impl Abort, len: u64, newest: Option<&Entry>) {
-        assert_names(rt, self.desk.lost(), len, newest);
-    }
-}
-
-fn assert_names<A: Allocator>(
-    rt: &impl Abort,
-    ledger: &Ledger<A>,
-    len: u64,
-    newest: Option<&Entry>,
-) {
-    assert_equal(rt, ledger.len(), len);
-    assert_equal(rt, ledger.is_empty(), len == 0);
-    assert_equal(rt, ledger.newest(), newest);
-}
-
-/// Names the spans of a batch.
-pub(crate) fn into_named<A: Allocator>(
-    rt: &impl Abort,
-    batch: Batch<A>,
-    reason: Reason,
-) -> NamedBatch<A> {
-    assert!(rt; reason.can_drop_batch());
-    let (number, count) = (batch.number(), batch.spans().len());
-    let named = batch.into_named(reason);
-    assert_equal(rt, (named.number(), named.reason()), (number, reason));
-    assert_equal(rt, named.names().count(), count);
-    named
-}
-
-/// Names the spans of a batch with this fate, by which so many of them are lost.
-pub(crate) fn into_settled<A: Allocator>(
-    rt: &impl Abort,
-    batch: Batch<A>,
-    fate: Fate,
-    lost: usize,
-) -> SettledBatch<A> {
-    let number = batch.number();
-    let settled = batch.into_settled(fate);
-    assert_equal(rt, (settled.number(), settled.fate()), (number, fate));
-    assert_equal(rt, settled.names().count(), lost);
-    settled
 }

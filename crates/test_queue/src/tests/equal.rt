@@ -1,22 +1,9 @@
-//! Comparisons, each a call of a function of its own: `assert_eq!` in its place is proved with the
-//! body that it is in, which takes ten times as long. Each crate of tests has its own, since a
-//! library may not have functions that end the process.
-use std::alloc::Allocator;
+//! Comparisons, each a call of a function of its own, which is proved once: `assert_eq!` in its
+//! place is proved with the body that it is in.
 use std::fmt::Debug;
 use std::process::Abort;
 
 /// Asserts that two values are equal.
 pub(crate) fn assert_equal<T: PartialEq + Debug + Drop>(rt: &impl Abort, left: T, right: T) {
     assert_eq!(rt; left, right);
-}
-
-/// Asserts what `Debug` shows.
-pub(crate) fn assert_shown<A: Allocator>(
-    rt: &impl Abort,
-    alloc: A,
-    value: &impl Debug,
-    text: &str,
-) {
-    let found = format!(in alloc; "{value:?}").expect(rt, "memory");
-    assert_equal(rt, found.as_str(), text);
 }

@@ -9,21 +9,14 @@ use std::process::Abort;
 /// The number of each span.
 pub(crate) const NUMBER: u64 = 7;
 
-/// A span that was accepted: its place among these, from 0 on, and its ticket.
-#[derive(Clone, Copy)]
-pub(crate) struct Accepted {
-    pub(crate) place: u64,
-    pub(crate) ticket: u64,
-}
-
-/// What a desk has, in plain lists.
+/// What a desk has. Spans are their tickets.
 #[derive(Drop)]
 pub(crate) struct Plain {
     config: DeskConfig,
-    pub(crate) waiting: Vec<Accepted>,
-    pub(crate) out: Vec<Accepted>,
+    waiting: Vec<u64>,
+    pub(crate) out: Vec<u64>,
     pub(crate) is_handed: bool,
-    pub(crate) number: u64,
+    batches: u64,
     pub(crate) ledger: Vec<Entry>,
     pub(crate) lost: Vec<Entry>,
     next_ticket: u64,
@@ -39,7 +32,7 @@ impl Plain {
             waiting: Vec::new(alloc),
             out: Vec::new(alloc),
             is_handed: false,
-            number: 0,
+            batches: 0,
             ledger: Vec::new(alloc),
             lost: Vec::new(alloc),
             next_ticket: 0,
@@ -57,27 +50,14 @@ impl Plain {
         let ticket = self.next_ticket;
         add(&mut self.next_ticket, 1);
         if self.waiting.len() == self.config.queue {
-            self.drop_span(rt, ticket, Reason::QueueFull);
+            push_names(rt, &mut self.ledger, &[ticket], Reason::QueueFull);
+            add(&mut self.totals.dropped.queue_full, 1);
             return Admitted::Full(ticket);
         }
-        let place = self.totals.accepted;
-        self.waiting
-            .push(Accepted { place, ticket })
-            .expect(rt, "memory");
+        self.waiting.push(ticket).expect(rt, "memory");
         add(&mut self.totals.accepted, 1);
         add(&mut self.totals.left, 1);
         Admitted::Queued(ticket)
-    }
-
-    fn drop_span(&mut self, rt: &impl Abort, ticket: u64, reason: Reason) {
-        self.ledger.push(entry(ticket, reason)).expect(rt, "memory");
-        let dropped = &mut self.totals.dropped;
-        match reason {
-            Reason::QueueFull => add(&mut dropped.queue_full, 1),
-            Reason::EncodeMemory => add(&mut dropped.encode_memory, 1),
-            Reason::TooLarge => add(&mut dropped.too_large, 1),
-            _ => add(&mut dropped.abandoned, 1),
-        }
     }
 
     pub(crate) fn flush(&mut self) {
@@ -89,32 +69,27 @@ impl Plain {
         self.totals.closed = true;
     }
 
-    /// Why a batch is due where spans wait: 1 where there are enough for one, and 2 where they are
-    /// asked for, as after a shutdown, and 4 where the delay has passed.
-    pub(crate) fn causes(&self, now: u64) -> usize {
+    pub(crate) fn is_due(&self, now: u64) -> bool {
         let delay = u64::from(self.config.delay_ms).saturating_mul(1_000_000);
         let is_full = self.waiting.len() >= self.config.batch;
-        let is_asked = !is_after(self.waiting.first(), self.asked) || self.totals.closed;
+        let is_asked = self.totals.taken < self.asked || self.totals.closed;
         let is_time = now >= self.last_take.saturating_add(delay);
-        usize::from(is_full) | usize::from(is_asked) << 1 | usize::from(is_time) << 2
-    }
-
-    pub(crate) fn is_due(&self, now: u64) -> bool {
-        !self.waiting.is_empty() && self.causes(now) > 0
+        !self.waiting.is_empty() && (is_full || is_asked || is_time)
     }
 
     /// Takes the next batch, which is due; none is out.
     pub(crate) fn take(&mut self, rt: &impl Abort, now: u64) {
-        for _ in 0..self.config.batch {
+        let count = self.config.batch.min(self.waiting.len());
+        for _ in 0..count {
             if !self.waiting.is_empty() {
-                let span = self.waiting.remove(0);
-                self.out.push(span).expect(rt, "memory");
-                add(&mut self.totals.taken, 1);
-                self.totals.left = self.totals.left.saturating_sub(1);
+                let ticket = self.waiting.remove(0);
+                self.out.push(ticket).expect(rt, "memory");
             }
         }
+        add(&mut self.totals.taken, count as u64);
+        self.totals.left = self.waiting.len() as u64;
         self.is_handed = false;
-        add(&mut self.number, 1);
+        add(&mut self.batches, 1);
         self.last_take = now;
     }
 
@@ -124,21 +99,19 @@ impl Plain {
     }
 
     pub(crate) fn drop_batch(&mut self, rt: &impl Abort, reason: Reason) {
-        for _ in 0..self.config.batch {
-            if !self.out.is_empty() {
-                let span = self.out.remove(0);
-                self.drop_span(rt, span.ticket, reason);
-            }
+        let count = self.out.len() as u64;
+        match reason {
+            Reason::EncodeMemory => add(&mut self.totals.dropped.encode_memory, count),
+            Reason::TooLarge => add(&mut self.totals.dropped.too_large, count),
+            _ => add(&mut self.totals.dropped.abandoned, count),
         }
+        push_names(rt, &mut self.ledger, self.out.as_slice(), reason);
+        self.out.clear();
     }
 
     pub(crate) fn settle(&mut self, rt: &impl Abort, fate: Fate) {
         if let Some(reason) = lost_by(fate) {
-            for span in self.out.iter() {
-                self.lost
-                    .push(entry(span.ticket, reason))
-                    .expect(rt, "memory");
-            }
+            push_names(rt, &mut self.lost, self.out.as_slice(), reason);
             add(&mut self.totals.lost, self.out.len() as u64);
         }
         self.out.clear();
@@ -155,32 +128,29 @@ impl Plain {
 
     /// The batch that is out, as a desk answers it.
     pub(crate) fn out_state(&self) -> Option<(u64, bool)> {
-        if self.out.is_empty() {
-            None
-        } else {
-            Some((self.number, self.is_handed))
-        }
+        (!self.out.is_empty()).then_some((self.batches, self.is_handed))
     }
 
-    /// Where the first so many accepted spans are: 1 where one of them waits, and 2 where one is
-    /// out.
-    pub(crate) fn places(&self, mark: u64) -> usize {
-        let waits = !is_after(self.waiting.first(), mark);
-        let is_out = !is_after(self.out.first(), mark);
-        usize::from(waits) | usize::from(is_out) << 1
+    /// Whether none of the first so many accepted spans waits or is out.
+    pub(crate) fn is_flushed(&self, mark: u64) -> bool {
+        let ended = self.totals.taken.saturating_sub(self.out.len() as u64);
+        ended >= mark || (self.totals.taken >= mark && self.out.is_empty())
     }
 }
 
-/// The name of a span with this ticket.
-fn entry(ticket: u64, reason: Reason) -> Entry {
-    Entry {
-        ticket,
-        ..name(NUMBER, reason)
+/// Adds the names of spans with these tickets.
+fn push_names(rt: &impl Abort, names: &mut Vec<Entry>, tickets: &[u64], reason: Reason) {
+    for ticket in tickets {
+        let entry = Entry {
+            ticket: *ticket,
+            ..name(NUMBER, reason)
+        };
+        names.push(entry).expect(rt, "memory");
     }
 }
 
 /// Why the spans of a batch with this fate are lost, if they are.
-pub(crate) fn lost_by(fate: Fate) -> Option<Reason> {
+fn lost_by(fate: Fate) -> Option<Reason> {
     match fate {
         Fate::Delivered => None,
         Fate::Partial(_) => None,
@@ -188,14 +158,6 @@ pub(crate) fn lost_by(fate: Fate) -> Option<Reason> {
         Fate::BadReply => Some(Reason::BadReply),
         Fate::GivenUp => Some(Reason::GivenUp),
         Fate::Abandoned => Some(Reason::LeftHanded),
-    }
-}
-
-/// Whether the oldest span of a list, if it has one, isn't among the first so many.
-fn is_after(oldest: Option<&Accepted>, mark: u64) -> bool {
-    match oldest {
-        Some(span) => span.place >= mark,
-        None => true,
     }
 }
 
