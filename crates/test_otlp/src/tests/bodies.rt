@@ -1,4 +1,4 @@
-//! Bytes of requests that were written out by hand (opentelemetry-proto, trace_service.proto,
+//! Bytes of a request that were written out by hand (opentelemetry-proto, trace_service.proto,
 //! trace.proto, resource.proto and common.proto; Protocol Buffers, "Encoding").
 
 /// A request of a resource with two spans in a scope, and one of a resource of nothing.
@@ -32,8 +32,8 @@ pub(crate) const RICH: &[u8] = b"\x0a\xc1\x02\x0a\x21\
     \x22\x07\x0a\x01k\x12\x02\x18\x05\x28\x06\x6a\x03\x12\x01d\
     \x1a\x01u\x1a\x01t\x0a\x00";
 
-/// What is read of that, as `Debug` shows it.
-pub(crate) const RICH_TEXT: &str = "Request { resource_spans: [ResourceSpans { \
+/// How many spans are read of that, and what it is, as `Debug` shows it.
+pub(crate) const RICH_TEXT: &str = "(2, Request { resource_spans: [ResourceSpans { \
     resource: Resource { attributes: [(\"k\", Text(\"x\")), \
     (\"l\", Array([Int(1), Bool(true), Array([])]))], dropped_attributes_count: 3 }, \
     scope_spans: [ScopeSpans { scope: InstrumentationScope { name: \"s\", version: \"v\", \
@@ -59,13 +59,4 @@ pub(crate) const RICH_TEXT: &str = "Request { resource_spans: [ResourceSpans { \
     trace_state: \"\", attributes: [], dropped_attributes_count: 0, flags: 0 }], \
     dropped_links_count: 0, status: Status { message: \"\", code: 0 }, flags: 0 }], \
     schema_url: \"u\" }], schema_url: \"t\" }, ResourceSpans { resource: Resource { \
-    attributes: [], dropped_attributes_count: 0 }, scope_spans: [], schema_url: \"\" }] }";
-
-/// A request of two resources, with two scopes each, with two spans each. A resource has a count of
-/// dropped attributes, its scopes and a schema URL, a scope its name, its spans and a schema URL.
-pub(crate) const EIGHT: &[u8] = b"\x0a\x2f\x0a\x02\x10\x01\
-    \x12\x12\x0a\x03\x0a\x01s\x12\x03\x2a\x01a\x12\x03\x2a\x01b\x1a\x01t\
-    \x12\x12\x0a\x03\x0a\x01u\x12\x03\x2a\x01c\x12\x03\x2a\x01d\x1a\x01v\x1a\x01q\
-    \x0a\x2f\x0a\x02\x10\x02\
-    \x12\x12\x0a\x03\x0a\x01w\x12\x03\x2a\x01e\x12\x03\x2a\x01f\x1a\x01x\
-    \x12\x12\x0a\x03\x0a\x01y\x12\x03\x2a\x01g\x12\x03\x2a\x01h\x1a\x01z\x1a\x01r";
+    attributes: [], dropped_attributes_count: 0 }, scope_spans: [], schema_url: \"\" }] })";

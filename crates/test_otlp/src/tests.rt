@@ -3,13 +3,10 @@
 mod bodies;
 mod environment;
 mod equal;
-mod exports;
-mod headers;
-mod requests;
-mod resources;
-mod responses;
-mod rows;
+mod gzip_files;
+mod large;
+mod refusals;
 mod samples;
 mod settings;
+mod texts;
 mod trees;
-mod wire;

@@ -1,9 +1,52 @@
-//! How each fault is reported.
+//! How each fault is displayed.
 use crate::tests::equal::assert_displayed;
 use gzip::{GunzipError, GzipFault};
+use otel_settings::ResourceFault;
+use otlp_json::{JsonError, JsonFault};
+use otlp_proto::EncodeFault;
+use otlp_wire::{ReadFault, WireFault};
 
 #[test]
-fn each_fault_is_reported(rt: HostRuntime) {
+fn faults_of_messages_are_displayed(rt: HostRuntime) {
+    let alloc = rt.alloc();
+    for (fault, text) in [
+        (WireFault::Truncated, "a field runs past the end"),
+        (WireFault::LongVarint, "a varint has more than ten bytes"),
+        (WireFault::BadNumber, "a field number is out of range"),
+        (WireFault::Group, "a group begins or ends"),
+        (WireFault::BadWireType, "a wire type is unknown"),
+    ] {
+        assert_displayed(&rt, alloc, &ReadFault::Wire(fault), text);
+    }
+    for (fault, text) in [
+        (ReadFault::BadUtf8, "a text is not UTF-8"),
+        (ReadFault::TooDeep, "a value nests too deep"),
+        (ReadFault::OutOfMemory, "out of memory"),
+    ] {
+        assert_displayed(&rt, alloc, &fault, text);
+    }
+    assert_displayed(&rt, alloc, &EncodeFault::OutOfMemory, "out of memory");
+    assert_displayed(&rt, alloc, &EncodeFault::TooLarge, "too large");
+}
+
+#[test]
+fn faults_of_texts_are_displayed(rt: HostRuntime) {
+    let alloc = rt.alloc();
+    let error = JsonError::Fault {
+        fault: JsonFault::WrongType,
+        offset: 18,
+    };
+    let text = "a value is not of the type of its field (near byte 18)";
+    assert_displayed(&rt, alloc, &error, text);
+    assert_displayed(&rt, alloc, &JsonError::OutOfMemory, "out of memory");
+    let text =
+        "bad resource attributes: they are key=value,key=value, and other characters are %XX";
+    assert_displayed(&rt, alloc, &ResourceFault::NotPairs, text);
+    assert_displayed(&rt, alloc, &ResourceFault::OutOfMemory, "out of memory");
+}
+
+#[test]
+fn faults_of_gzip_files_are_displayed(rt: HostRuntime) {
     for (fault, text) in [
         (GzipFault::Truncated, "the file ends too early"),
         (GzipFault::BadBlockType, "a block is of an unknown type"),
@@ -48,7 +91,6 @@ fn each_fault_is_reported(rt: HostRuntime) {
             "the file means more bytes than the limit",
         ),
     ] {
-        assert_displayed(&rt, rt.alloc(), &fault, text);
         assert_displayed(&rt, rt.alloc(), &GunzipError::Fault(fault), text);
     }
     assert_displayed(&rt, rt.alloc(), &GunzipError::OutOfMemory, "out of memory");

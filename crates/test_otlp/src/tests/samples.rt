@@ -1,4 +1,4 @@
-//! Spans that are made without a provider.
+//! Spans that are made without a provider, and bodies of them that were written out by hand.
 
 use otlp_ids::{OutOfMemory, SpanContext, SpanId, TraceFlags, TraceId};
 use otlp_span::{Kind, Open, Resource, Scope, SpanData, SpanLimits, SpanRecord};
@@ -96,3 +96,46 @@ pub(crate) fn spans_of<A: Allocator + Copy>(
     }
     Ok(spans)
 }
+
+pub(crate) const FIRST: Sample<'_> = Sample {
+    resource: "",
+    scope: ["s", "", ""],
+};
+
+/// That sample, and one under another resource, in a scope of which all is filled.
+pub(crate) const TWO: &[Sample<'_>] = &[
+    FIRST,
+    Sample {
+        resource: "r",
+        scope: ["t", "1", "u"],
+    },
+];
+
+/// The body of the two.
+pub(crate) const TWO_RESOURCES: &str = concat!(
+    "0a440a00",
+    "1240",
+    "0a030a0173",
+    "1239",
+    "0a100102030405060708090a0b0c0d0e0f1012081112131415161718",
+    "2a01613001390100000000000000410200000000000000",
+    "850101010000", // flags of the span
+    "0a4d0a00",
+    "1246",
+    "0a060a017412",
+    "0131",
+    "1239",
+    "0a100102030405060708090a0b0c0d0e0f1012081112131415161718",
+    "2a01613001390100000000000000410200000000000000",
+    "850101010000", // flags of the span
+    "1a0175",       // schema URL of the scope
+    "1a0172",       // schema URL of the resource
+);
+
+/// A span, as a field of its scope.
+pub(crate) const SPAN_FIELD: &str = concat!(
+    "1239",
+    "0a100102030405060708090a0b0c0d0e0f1012081112131415161718",
+    "2a01613001390100000000000000410200000000000000",
+    "850101010000", // flags of the span
+);
