@@ -1,11 +1,8 @@
-//! The tests, a module for each part of what is tested, and what they share.
+//! The test, and what it makes and reads.
 
+mod bodies;
+mod book;
 mod equal;
-mod exporters;
 mod far_side;
-mod fixture;
-mod links;
-mod memory;
 mod random_programs;
 mod random_runs;
-mod written;

@@ -1,9 +1,8 @@
 //! Programs that a seeded generator makes, and the settings that they run with.
-use crate::tests::fixture::{config, elsewhere, text};
 use batch_desk::DeskConfig;
-use otlp_ids::TraceFlags;
+use otlp_ids::{SpanContext, SpanId, TraceFlags, TraceId};
 use otlp_sampler::{AlwaysOn, ParentBased};
-use otlp_span::{Kind, SpanCall};
+use otlp_span::{Kind, Resource, Scope, SpanCall, SpanLimits};
 use otlp_value::Value;
 use rand_core::Rng;
 use rand_pcg::Pcg32;
@@ -26,6 +25,21 @@ pub(crate) fn below(rng: &mut Pcg32, count: u32) -> u32 {
 /// Whether one of so many cases is drawn.
 pub(crate) fn one_in(rng: &mut Pcg32, cases: u32) -> bool {
     below(rng, cases) == 0
+}
+
+fn text<A: Allocator>(rt: &impl Abort, alloc: A, text: &str) -> String<A> {
+    String::from_str(alloc, text).expect(rt, "memory")
+}
+
+/// A span of elsewhere, which has a trace state.
+fn elsewhere<A: Allocator>(rt: &impl Abort, alloc: A, flags: TraceFlags) -> Parent<A> {
+    Parent::Given(SpanContext {
+        trace: TraceId([7; 16]),
+        span: SpanId([8; 8]),
+        flags,
+        remote: true,
+        state: text(rt, alloc, "k=v"),
+    })
 }
 
 /// A program on its way: how many spans it has asked for, and its clock.
@@ -177,19 +191,39 @@ fn random_desk(rng: &mut Pcg32) -> DeskConfig {
     }
 }
 
+/// The greatest body: some bytes in a third of the runs.
+fn random_most(rng: &mut Pcg32) -> usize {
+    if one_in(rng, 3) {
+        return below(rng, 300) as usize;
+    }
+    4_194_304
+}
+
+/// Up to five attempts, after waits of half a second and more.
+fn random_retry(rt: &impl Abort, rng: &mut Pcg32) -> RetryConfig {
+    let attempts = below(rng, 5).saturating_add(1);
+    RetryConfig::new(attempts, 500, 2_000).expect(rt, "settings")
+}
+
 /// What a run begins with.
 pub(crate) fn random_config<A: Allocator + Copy>(
     rt: &impl Abort,
     alloc: A,
-    rng: &mut Pcg32,
+    seed: u64,
 ) -> RunConfig<ByParent, WordsRng<A>, A> {
-    let words = random_words(rt, alloc, rng);
-    let desk = random_desk(rng);
-    let mut config = config(rt, alloc, ParentBased::new(AlwaysOn), desk, words);
-    let attempts = below(rng, 5).saturating_add(1);
-    config.retry = RetryConfig::new(attempts, 500, 2_000).expect(rt, "settings");
-    if one_in(rng, 3) {
-        config.max_body = below(rng, 300) as usize;
+    let mut rng = Pcg32::new(seed, 3);
+    let words = random_words(rt, alloc, &mut rng);
+    let mut scopes = Vec::new(alloc);
+    let scope = Scope::named(alloc, "s").expect(rt, "memory");
+    scopes.push(scope).expect(rt, "memory");
+    RunConfig {
+        sampler: ParentBased::new(AlwaysOn),
+        limits: SpanLimits::default(),
+        resource: Resource::new(alloc, Vec::new(alloc)),
+        scopes,
+        desk: random_desk(&mut rng),
+        retry: random_retry(rt, &mut rng),
+        max_body: random_most(&mut rng),
+        rng: words,
     }
-    config
 }
