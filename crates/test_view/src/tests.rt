@@ -1,8 +1,6 @@
-//! The tests, a module for each crate, and what they share.
+//! The tests.
 
-mod bodies;
+mod calls;
 mod equal;
-mod hosts;
 mod peers;
-mod store;
-mod text;
+mod traces;

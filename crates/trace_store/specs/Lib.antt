@@ -7,3 +7,4 @@ pub mod Requests
 pub mod SpanParts
 pub mod Facts
 pub mod Digests
+pub mod Examples

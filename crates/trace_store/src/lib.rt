@@ -31,6 +31,7 @@ mod spans;
 mod store;
 mod trace_digest;
 mod traces;
+mod worked;
 
 pub use apart::take_apart;
 pub use facts::{end_of, is_error, names_none, service_of};

@@ -11,6 +11,7 @@ mod pieces;
 mod span;
 mod trace;
 mod value;
+mod worked;
 
 pub use list::{Stats, write_stats, write_traces};
 pub use pieces::TraceJson;

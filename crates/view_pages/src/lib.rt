@@ -15,6 +15,7 @@ mod row;
 mod style;
 mod times;
 mod value;
+mod worked;
 
 pub use list::{write_list_page, write_notice_page};
 pub use pieces::TracePage;

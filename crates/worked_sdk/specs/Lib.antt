@@ -15,3 +15,4 @@ pub mod TraceIds
 pub mod Shops
 pub mod LongKeys
 pub mod Contents
+pub mod Readings

@@ -10,7 +10,8 @@
 //! - Requests with spans (`http_client`, `traced_http`): their texts, what their spans say, and the
 //!   queries of URLs without their secrets.
 //! - Settings, the texts of resource attributes and of headers (`otel_settings`).
-//! - What the bodies of posts of spans mean as bytes (`otlp_receiver`).
+//! - What the bodies of posts of spans mean as bytes (`otlp_receiver`), and what reading them takes
+//!   (`otlp_read`).
 //! - Sampling by a ratio (`otlp_sampler`): thresholds, trace ids and texts.
 //!
 //! Each function without an argument is a group of examples. Its clauses are the examples, and it
@@ -41,6 +42,7 @@ pub mod posts;
 pub mod queries;
 pub mod queues;
 pub mod ratios;
+pub mod readings;
 pub mod refusals;
 pub mod replies;
 pub mod requests;

@@ -4,7 +4,7 @@ use crate::tests::equal::assert_equal;
 use bytes::{BufMut, Bytes};
 use http::Request;
 use http_connection::{Gathers, Pieces, Refusal, Service};
-use http_listener::{Peers, Settings, listen};
+use http_listener::{Peers, Round, Settings, listen};
 use http_server::Response;
 use std::alloc::AllocError;
 use std::fs::File;
@@ -14,9 +14,26 @@ use std::os::fd::AsRawFd;
 use std::os::unix::net::UnixStream;
 use std::process::Abort;
 
-/// Answers each request by the same text.
+/// Answers each request by the same text, and notes whether each was shown before, and settled.
 #[derive(Drop)]
-struct Same;
+struct Noted {
+    /// How many requests it was shown.
+    shown: usize,
+    /// How many of these it has settled.
+    settled: usize,
+    /// How many requests it has answered.
+    answered: usize,
+    /// Whether it has answered one before it settled it.
+    is_early: bool,
+}
+
+/// No request was shown yet.
+const NONE: Noted = Noted {
+    shown: 0,
+    settled: 0,
+    answered: 0,
+    is_early: false,
+};
 
 /// The rest of an answer, of which there is none.
 #[derive(Drop)]
@@ -32,7 +49,7 @@ impl Pieces for NoPieces {
     }
 }
 
-impl Service for Same {
+impl Service for Noted {
     ghost use Rattle.std.specs.Prelude.{⊤};
 
     type Pieces = NoPieces;
@@ -56,6 +73,8 @@ impl Service for Same {
         response: &mut Response,
     ) -> Result<Option<NoPieces>, AllocError> {
         response.body.put_slice(b"ok\n")?;
+        self.is_early = self.is_early || self.settled <= self.answered;
+        self.answered = self.answered.saturating_add(1);
         Ok(None)
     }
 
@@ -66,6 +85,22 @@ impl Service for Same {
         _: &mut Response,
     ) -> Result<(), AllocError> {
         Ok(())
+    }
+}
+
+impl Gathers for Noted {
+    ghost use Rattle.std.specs.Prelude.{⊤};
+
+    ghost gathers = { λ _ _ _. ⊤ };
+
+    ghost settles = { λ _ _. ⊤ };
+
+    fn gather(&mut self, _: &Request<Bytes>, _: usize) {
+        self.shown = self.shown.saturating_add(1);
+    }
+
+    fn settle(&mut self) {
+        self.settled = self.shown;
     }
 }
 
@@ -84,32 +119,28 @@ fn server(rt: HostRuntime) -> Option<(Peers<HostRuntime, NoPieces>, SocketAddr)>
 /// How many rounds wait for what is to come: most take half a second at most.
 const ROUNDS: usize = 40;
 
+/// Gives the peers their turns once.
+fn round(rt: &impl Abort, peers: &mut Peers<HostRuntime, NoPieces>) -> Round {
+    match peers.round(&mut NONE) {
+        Ok(round) => round,
+        Err(_) => panic!(rt; "no round"),
+    }
+}
+
 /// Gives the peers their turns until one more has connected, and once more. Answers the moment.
 fn accept(rt: &impl Abort, peers: &mut Peers<HostRuntime, NoPieces>) -> u64 {
     for _round in 0..ROUNDS {
-        let accepted = match peers.round(&mut Same) {
-            Ok(round) => round.accepted,
-            Err(_) => break,
-        };
-        if accepted == 1 {
-            return turn(rt, peers);
+        if round(rt, peers).accepted == 1 {
+            return round(rt, peers).at_ms;
         }
     }
     panic!(rt; "nobody has connected");
 }
 
-/// Gives the peers their turns once. Answers the moment.
-fn turn(rt: &impl Abort, peers: &mut Peers<HostRuntime, NoPieces>) -> u64 {
-    match peers.round(&mut Same) {
-        Ok(round) => round.at_ms,
-        Err(_) => panic!(rt; "no round"),
-    }
-}
-
 /// Gives the peers their turns until no more is to be done. Answers whether that came.
 fn ends(rt: &impl Abort, peers: &mut Peers<HostRuntime, NoPieces>) -> bool {
     for _round in 0..ROUNDS {
-        let at_ms = turn(rt, peers);
+        let at_ms = round(rt, peers).at_ms;
         if peers.is_done(at_ms) {
             return true;
         }
@@ -130,7 +161,7 @@ fn a_server_that_is_stopped_answers_what_was_begun(rt: HostRuntime) {
     assert_equal(&rt, peers.is_done(at_ms), false);
     peers.stop(at_ms.saturating_add(60_000));
     assert_equal(&rt, TcpStream::connect(&rt, address).is_err(), true);
-    let at_ms = turn(&rt, &mut peers);
+    let at_ms = round(&rt, &mut peers).at_ms;
     assert_equal(&rt, peers.is_done(at_ms), false);
     client
         .write_all(b"Host: a\r\n\r\n")
@@ -155,7 +186,7 @@ fn a_server_that_is_stopped_waits_until_its_end(rt: HostRuntime) {
     let at_ms = accept(&rt, &mut peers);
     let end_ms = at_ms.saturating_add(1_500);
     peers.stop(end_ms);
-    let at_ms = turn(&rt, &mut peers);
+    let at_ms = round(&rt, &mut peers).at_ms;
     assert_equal(&rt, peers.is_done(at_ms), end_ms <= at_ms);
     assert_equal(&rt, ends(&rt, &mut peers), true);
     assert_equal(&rt, peers.is_done(end_ms), true);
@@ -173,25 +204,17 @@ fn a_server_that_is_stopped_closes_who_asks_for_nothing(rt: HostRuntime) {
     assert_equal(&rt, client.read(&mut [0; 8]).ok(), Some(0));
 }
 
-/// Whether a round says that the program is to stop.
-fn is_to_stop(rt: &impl Abort, peers: &mut Peers<HostRuntime, NoPieces>) -> bool {
-    match peers.round(&mut Same) {
-        Ok(round) => round.is_to_stop,
-        Err(_) => panic!(rt; "no round"),
-    }
-}
-
 /// A program is to stop once bytes come at what it watches, or the end.
 #[test]
 fn bytes_or_the_end_ask_to_stop(rt: HostRuntime) {
     let (mut peers, _) = server(rt).expect(&rt, "a server");
     let (mut sends, input) = UnixStream::pair(&rt).expect(&rt, "a pair");
     assert_equal(&rt, peers.watch(input.as_raw_fd()).is_ok(), true);
-    assert_equal(&rt, is_to_stop(&rt, &mut peers), false);
+    assert_equal(&rt, round(&rt, &mut peers).is_to_stop, false);
     assert_equal(&rt, sends.write(b"x").ok(), Some(1));
-    assert_equal(&rt, is_to_stop(&rt, &mut peers), true);
+    assert_equal(&rt, round(&rt, &mut peers).is_to_stop, true);
     drop(sends);
-    assert_equal(&rt, is_to_stop(&rt, &mut peers), true);
+    assert_equal(&rt, round(&rt, &mut peers).is_to_stop, true);
 }
 
 /// What the system can't wait for is refused.
@@ -200,74 +223,6 @@ fn no_file_can_be_watched(rt: HostRuntime) {
     let (peers, _) = server(rt).expect(&rt, "a server");
     let nothing = File::open(&rt, "/dev/null").expect(&rt, "a file");
     assert_equal(&rt, peers.watch(nothing.as_raw_fd()).is_err(), true);
-}
-
-/// Answers each request by the same text, and notes whether each was shown before, and settled.
-#[derive(Drop)]
-struct Shown {
-    /// How many requests it was shown.
-    shown: usize,
-    /// How many of these it has settled.
-    settled: usize,
-    /// How many requests it has answered.
-    answered: usize,
-    /// Whether it has answered one before it settled it.
-    is_early: bool,
-}
-
-impl Service for Shown {
-    ghost use Rattle.std.specs.Prelude.{⊤};
-
-    type Pieces = NoPieces;
-
-    ghost answers = { λ _ _ _. ⊤ };
-
-    fn admit(
-        &mut self,
-        _: &Request<Bytes>,
-        _: Option<u64>,
-        _: usize,
-        _: &mut Response,
-    ) -> Result<bool, AllocError> {
-        Ok(true)
-    }
-
-    fn call(
-        &mut self,
-        request: &Request<Bytes>,
-        room: usize,
-        response: &mut Response,
-    ) -> Result<Option<NoPieces>, AllocError> {
-        let rest = Same.call(request, room, response)?;
-        self.is_early = self.is_early || self.settled <= self.answered;
-        self.answered = self.answered.saturating_add(1);
-        Ok(rest)
-    }
-
-    fn refuse(
-        &mut self,
-        _: Refusal,
-        _: Option<&Request<Bytes>>,
-        _: &mut Response,
-    ) -> Result<(), AllocError> {
-        Ok(())
-    }
-}
-
-impl Gathers for Shown {
-    ghost use Rattle.std.specs.Prelude.{⊤};
-
-    ghost gathers = { λ _ _ _. ⊤ };
-
-    ghost settles = { λ _ _. ⊤ };
-
-    fn gather(&mut self, _: &Request<Bytes>, _: usize) {
-        self.shown = self.shown.saturating_add(1);
-    }
-
-    fn settle(&mut self) {
-        self.settled = self.shown;
-    }
 }
 
 /// Sends a request.
@@ -294,12 +249,7 @@ fn requests_are_shown_before_they_are_answered(rt: HostRuntime) {
     let mut second = TcpStream::connect(&rt, address).expect(&rt, "a connection");
     ask(&rt, &mut first);
     ask(&rt, &mut second);
-    let mut service = Shown {
-        shown: 0,
-        settled: 0,
-        answered: 0,
-        is_early: false,
-    };
+    let mut service = NONE;
     for _round in 0..ROUNDS {
         if service.answered < 2 {
             let round = peers.round_together(&mut service);
