@@ -49,7 +49,8 @@ pub(crate) fn rooms()
     ensures too_large { ¬ HasRoom {S = ℕ} (λ n. n) (store_of [] 9 40) ((1, 20 ∷ 21 ∷ []) ∷ []) }
 {}
 
-/// What spans share counts with the first span of each trace: here for spans of traces 7, 8, 7 and 8.
+/// What spans share counts with the first span of each trace: here for spans of traces 7, 8, 7 and
+/// 8.
 pub(crate) fn shares()
     ensures first { share_of 512 (λ _. false) 7 ≡ 512 }
     ensures second { share_of 512 (and_trace (λ _. false) 7) 8 ≡ 512 }
@@ -65,8 +66,8 @@ pub(crate) fn names()
     ensures last { keep_last {X = ℕ} 2 (9 ∷ 1 ∷ 2 ∷ []) ≡ 1 ∷ 2 ∷ [] }
 {}
 
-/// A trace's number is the sixteen bytes of its identifier, the most significant first. An identifier
-/// of another length is that of trace 0.
+/// A trace's number is the sixteen bytes of its identifier, the most significant first. An
+/// identifier of another length is that of trace 0.
 pub(crate) fn keys()
     ensures last_bytes { trace_key (replicate 14 0 ++ 1 ∷ 2 ∷ []) ≡ 258 }
     ensures short { trace_key (1 ∷ 1 ∷ 1 ∷ 1 ∷ 1 ∷ 1 ∷ 1 ∷ 1 ∷ []) ≡ 0 }

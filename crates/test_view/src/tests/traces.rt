@@ -9,8 +9,8 @@ use view_json::TraceJson;
 use view_pages::TracePage;
 
 /// A trace of the service `shop<`: a child that is an error, and after it its root, which has an
-/// attribute, an event and a link; and a span of another trace. (opentelemetry-proto, "JSON Protobuf
-/// Encoding")
+/// attribute, an event and a link; and a span of another trace (opentelemetry-proto, "JSON
+/// Protobuf Encoding").
 const BODY: &str = concat!(
     r#"{"resourceSpans":[{"resource":{"attributes":[{"key":"service.name","value":"#,
     r#"{"stringValue":"shop<"}}]},"scopeSpans":[{"scope":{"name":"cart"},"spans":["#,
