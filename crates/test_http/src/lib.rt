@@ -1,6 +1,6 @@
-//! Tests of `http_wire`, `otlp_http` and `otlp_serve` over public calls alone: what is read and
-//! written of requests and replies, in parts and at once, where devices fail, and where memory is
-//! refused; and of the links that `http_exporter` keeps. The crate has no items of its own.
+//! Tests of `http_wire`, `otlp_http`, `otlp_serve` and `http_exporter` over public calls alone: large
+//! and changed messages, readers that fail and memory that is refused, texts for a person, and links
+//! over a network of our own and over the system's sockets. The crate has no items of its own.
 #![tactic(auto)]
 
 #[cfg(test)]

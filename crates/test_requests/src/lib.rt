@@ -1,8 +1,8 @@
 //! Tests, over public calls alone, of traces that cross services.
 //!
-//! `trace_context`, by the standard's examples and the cases of its own tests, by changed bytes,
-//! and where memory is refused; `traced_http`, by requests, replies and faults over links of our
-//! own, with the spans that come of them. Worked examples of both are in `worked_sdk`.
+//! `trace_context`, by the cases of the standard's own tests and where memory is refused;
+//! `traced_http` and `http_client`, by requests, replies and faults over links of our own, with the
+//! spans that come of them. Worked examples of all three are in `worked_sdk`.
 #![tactic(auto)]
 
 #[cfg(test)]

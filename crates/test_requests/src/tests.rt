@@ -1,15 +1,10 @@
-//! The tests, by what they try.
+//! The tests, by what they try, and what they share.
 
-mod carriers;
-mod changed_bytes;
 mod client;
+mod clock;
 mod contexts;
 mod equal;
 mod far_side;
-mod kept_client;
-mod kept_side;
 mod probe;
-mod requests;
+mod server;
 mod spans;
-mod standard_cases;
-mod steps;

@@ -1,51 +1,18 @@
-//! Texts that tests read as replies, how they come, and what a reply is in plain values.
+//! Texts, the wires that they come over, and what is read of a message in plain values.
 
-use crate::tests::equal::assert_equal;
 use otlp_http::{
     FailingCalls, FailingWire, FaultRead, HeadLimits, HttpFault, Reply, Target, TargetFault,
     read_reply,
 };
-use retry_core::RetryAfter;
+use otlp_serve::{Post, PostFault, read_post};
 use std::alloc::{Allocator, Global};
 use std::process::Abort;
 
-/// The body of a response that rejects two spans, and says `x`.
-pub const BODY: &[u8] = &[0x0a, 0x05, 0x08, 0x02, 0x12, 0x01, 0x78];
-
-/// The head of the reply that carries it: 38 bytes.
-pub const HEAD: &[u8] = b"HTTP/1.1 200 OK\r\nContent-Length: 7\r\n\r\n";
-
-/// That reply: 45 bytes.
-pub const REPLY: &[u8] =
-    b"HTTP/1.1 200 OK\r\nContent-Length: 7\r\n\r\n\x0a\x05\x08\x02\x12\x01\x78";
-
-/// What was read: a reply's status, the wait that it asks for, and its body or why that can't be
-/// had; or why there is no reply.
-pub type Plain<'a> = Result<(u16, Option<RetryAfter>, Result<&'a [u8], HttpFault>), HttpFault>;
-
-/// What was read, in plain values.
-pub(crate) fn plain<A: Allocator>(answer: &Result<Reply<A>, HttpFault>) -> Plain<'_> {
-    match answer {
-        Ok(reply) => Ok((reply.status, reply.retry_after, body_of(&reply.body))),
-        Err(fault) => Err(*fault),
-    }
-}
-
-/// A body, or why it can't be had.
-pub(crate) fn body_of<A: Allocator>(
-    body: &Result<Vec<u8, A>, HttpFault>,
-) -> Result<&[u8], HttpFault> {
-    match body {
-        Ok(body) => Ok(body.as_slice()),
-        Err(fault) => Err(*fault),
-    }
-}
-
 /// A text: a piece so many times between two others.
-pub(crate) type Text = (&'static [u8], &'static [u8], usize, &'static [u8]);
+pub(crate) type Text<'a> = (&'a [u8], &'a [u8], usize, &'a [u8]);
 
 /// The bytes of a text.
-pub(crate) fn bytes_of(rt: &impl Abort, alloc: Global, text: Text) -> Vec<u8> {
+pub(crate) fn bytes_of(rt: &impl Abort, alloc: Global, text: Text<'_>) -> Vec<u8> {
     let (front, piece, count, end) = text;
     let mut bytes = Vec::from_slice(alloc, front).expect(rt, "memory");
     for _copy in 0..count {
@@ -55,41 +22,12 @@ pub(crate) fn bytes_of(rt: &impl Abort, alloc: Global, text: Text) -> Vec<u8> {
     bytes
 }
 
-/// What two pieces of text are, one after the other.
-pub(crate) fn joined(rt: &impl Abort, alloc: Global, front: &[u8], rest: &[u8]) -> Vec<u8> {
-    let mut text = Vec::from_slice(alloc, front).expect(rt, "memory");
-    text.extend_from_slice(rest).expect(rt, "memory");
-    text
+/// A target at a collector on this machine.
+pub(crate) fn target<A: Allocator + Copy>(alloc: A) -> Result<Target<A>, TargetFault> {
+    Target::new(alloc, "127.0.0.1", 4318, "/v1/traces")
 }
 
-/// The whole reply of a collector that has this status and reason and these last fields.
-pub(crate) fn reply_with(rt: &impl Abort, alloc: Global, status: &str, fields: &str) -> String {
-    let rest = "\r\nContent-Type: application/x-protobuf\r\nContent-Length: 0\r\n";
-    let mut text = String::new(alloc);
-    for piece in [
-        "HTTP/1.1 ",
-        status,
-        rest,
-        "Connection: close\r\n",
-        fields,
-        "\r\n",
-    ] {
-        text.push_str(piece).expect(rt, "memory");
-    }
-    text
-}
-
-/// A target with this host, this port and this path.
-pub(crate) fn target<A: Allocator + Copy>(
-    alloc: A,
-    host: &str,
-    port: u16,
-    path: &str,
-) -> Result<Target<A>, TargetFault> {
-    Target::new(alloc, host, port, path)
-}
-
-/// A wire that gives these bytes, at most so many a call.
+/// A wire that gives these bytes, at most so many a call, and fails these calls.
 pub(crate) fn wire(
     rt: &impl Abort,
     alloc: Global,
@@ -102,100 +40,121 @@ pub(crate) fn wire(
     FailingWire::new(input, Vec::new(alloc), most, failing)
 }
 
-/// How a text comes, and how much of it is read.
-#[derive(Clone, Copy)]
-pub(crate) struct Way {
-    /// The most bytes that a call gives.
-    pub(crate) most: usize,
-    /// Which calls fail.
-    pub(crate) failing: FailingCalls,
-    /// The limits of a head and of a body.
-    pub(crate) limits: HeadLimits,
-}
+/// Why there is no body, if there is none: whether that lies in the head, and what it is.
+pub(crate) type Lack = Option<(bool, HttpFault)>;
 
-/// At most so many bytes a call, within these limits.
-pub(crate) fn within(most: usize, limits: HeadLimits) -> Way {
-    Way {
-        most,
-        failing: FailingCalls::Never,
-        limits,
+/// What was read of a message: its body, why there is none, how many bytes the wire has yet to give,
+/// and how often it failed.
+pub(crate) type Found = (Vec<u8>, Lack, usize, u64);
+
+/// The body of a reply, or why there is none.
+fn in_reply<A: Allocator>(answer: &Result<Reply<A>, HttpFault>) -> (&[u8], Lack) {
+    match answer {
+        Ok(reply) => match &reply.body {
+            Ok(body) => (body.as_slice(), None),
+            Err(fault) => (&[], Some((false, *fault))),
+        },
+        Err(fault) => (&[], Some((true, *fault))),
     }
 }
 
-/// The same within the usual limits.
-pub(crate) fn in_parts(most: usize) -> Way {
-    within(most, HeadLimits::default())
-}
-
-/// The same of a wire that fails the call with this number.
-pub(crate) fn failing(most: usize, call: u64) -> Way {
-    Way {
-        most,
-        failing: FailingCalls::Once(call),
-        limits: HeadLimits::default(),
+/// The body of a request, or why there is none.
+fn in_post<A: Allocator>(answer: &Result<Post<A>, PostFault>) -> (&[u8], Lack) {
+    match answer {
+        Ok(post) => (post.body.as_slice(), None),
+        Err(PostFault::Head(fault)) => (&[], Some((true, *fault))),
+        Err(PostFault::Body(fault)) => (&[], Some((false, *fault))),
     }
 }
 
-/// How many bytes of a text a wire has yet to give, and how often it failed.
-pub(crate) type Rest = (usize, u64);
-
-/// What is left of a text on a wire: its last bytes.
-pub(crate) fn rest_of(rt: &impl Abort, text: &[u8], wire: &FailingWire) -> Rest {
-    let left = wire.left();
-    assert_equal(rt, text.ends_with(left), true);
-    (left.len(), FaultRead::failures(wire))
-}
-
-/// The reply that a reader gives, within these limits.
-pub(crate) fn read<R: FaultRead, A: Allocator + Copy>(
+/// What is read of a reply in this memory.
+fn read_as_reply<A: Allocator + Copy>(
     rt: &impl Abort,
     alloc: A,
     global: Global,
-    reader: &mut R,
-    limits: &HeadLimits,
-) -> Result<Reply<A>, HttpFault> {
-    assert!(rt; limits.fields <= 64);
-    read_reply(alloc, global, reader, limits)
+    wire: &mut FailingWire,
+) -> (Vec<u8>, Lack) {
+    let answer = read_reply(alloc, global, wire, &HeadLimits::default());
+    let (body, lack) = in_reply(&answer);
+    (Vec::from_slice(global, body).expect(rt, "memory"), lack)
 }
 
-/// What a text that comes this way is read as, in this memory, and what is left of it.
-pub(crate) fn read_way<A: Allocator + Copy>(
+/// What is read of a request in this memory.
+fn read_as_post<A: Allocator + Copy>(
     rt: &impl Abort,
     alloc: A,
     global: Global,
-    text: &[u8],
-    way: Way,
-) -> (Result<Reply<A>, HttpFault>, Rest) {
-    let mut wire = wire(rt, global, text, way.most, way.failing);
-    let answer = read(rt, alloc, global, &mut wire, &way.limits);
-    let rest = rest_of(rt, text, &wire);
-    (answer, rest)
+    wire: &mut FailingWire,
+) -> (Vec<u8>, Lack) {
+    let answer = read_post(alloc, global, wire, &HeadLimits::default());
+    let (body, lack) = in_post(&answer);
+    (Vec::from_slice(global, body).expect(rt, "memory"), lack)
 }
 
-/// Checks what a text that comes this way is read as, and what is left of it.
-pub(crate) fn assert_reply(
+/// What is read of a message in this memory: of a request, or of a reply.
+pub(crate) fn read<A: Allocator + Copy>(
+    rt: &impl Abort,
+    alloc: A,
+    wire: &mut FailingWire,
+    global: Global,
+    is_post: bool,
+) -> Found {
+    let (body, lack) = if is_post {
+        read_as_post(rt, alloc, global, wire)
+    } else {
+        read_as_reply(rt, alloc, global, wire)
+    };
+    (body, lack, wire.left().len(), FaultRead::failures(wire))
+}
+
+/// What is read of a text over a wire that gives at most so many bytes a call, and fails these calls.
+pub(crate) fn found(
     rt: &impl Abort,
     alloc: Global,
     text: &[u8],
-    way: Way,
-    wanted: (Plain<'_>, Rest),
-) {
-    let (answer, rest) = read_way(rt, alloc, alloc, text, way);
-    assert_equal(rt, (text, (plain(&answer), rest)), (text, wanted));
+    is_post: bool,
+    how: (usize, FailingCalls),
+) -> Found {
+    let (most, failing) = how;
+    let mut wire = wire(rt, alloc, text, most, failing);
+    read(rt, alloc, &mut wire, alloc, is_post)
 }
 
-/// The most bytes that a call gives of a text that is read in parts of several sizes, and at once.
-pub(crate) const PARTS: [usize; 5] = [1, 2, 3, 5, 65_536];
+/// A message: whether it is a request, the size of its head, and its text.
+pub(crate) type Message = (bool, usize, &'static [u8]);
 
-/// Checks what a text is read as in parts of several sizes, and how many of its bytes are left.
-pub(crate) fn assert_read(
-    rt: &impl Abort,
-    alloc: Global,
-    text: &[u8],
-    wanted: Plain<'_>,
-    left: usize,
-) {
-    for most in PARTS {
-        assert_reply(rt, alloc, text, in_parts(most), (wanted, (left, 0)));
-    }
-}
+/// The body that each of them has: a response that rejects two spans, and says `x`.
+pub(crate) const BODY: &[u8] = b"\x0a\x05\x08\x02\x12\x01\x78";
+
+/// A reply whose body has a length.
+pub(crate) const REPLY: &[u8] =
+    b"HTTP/1.1 200 OK\r\nContent-Length: 7\r\n\r\n\x0a\x05\x08\x02\x12\x01\x78";
+
+/// Messages whose bodies have a length, the reply after an interim head, and messages whose bodies come in chunks, with an extension,
+/// blanks, leading zeros and trailers.
+pub(crate) const MESSAGES: [Message; 4] = [
+    (
+        false,
+        81,
+        b"HTTP/1.1 100 Continue\r\n\r\n\
+        HTTP/1.1 503 Busy\r\nRetry-After: 7\r\nContent-Length: 7\r\n\r\n\x0a\x05\x08\x02\x12\x01\x78",
+    ),
+    (
+        true,
+        69,
+        b"POST /v1/traces HTTP/1.1\r\nHost: 127.0.0.1:4318\r\nContent-Length: 7\r\n\r\n\
+        \x0a\x05\x08\x02\x12\x01\x78",
+    ),
+    (
+        false,
+        47,
+        b"HTTP/1.1 200 OK\r\nTransfer-Encoding: chunked\r\n\r\n\
+        3;a=\"b\"\r\n\x0a\x05\x08\r\n0004 \t\r\n\x02\x12\x01\x78\r\n000;z\r\nA: b\nC:\r\n\r\n",
+    ),
+    (
+        true,
+        65,
+        b"POST /v1/traces HTTP/1.1\r\nHost: a\r\nTransfer-Encoding: chunked\r\n\r\n\
+        3;a=\"b\"\r\n\x0a\x05\x08\r\n0004 \t\r\n\x02\x12\x01\x78\r\n000;z\r\nA: b\nC:\r\n\r\n",
+    ),
+];

@@ -1,25 +1,71 @@
 //! Requests of a client, what goes out, and their spans.
+use super::clock::Steps;
 use super::equal::assert_equal;
-use super::far_side::{Does, FarSide};
-use super::requests::long_path;
-use super::spans::{lines_of, moments_of};
-use super::steps::Steps;
+use super::far_side::{After, FarSide, Line, Log};
+use super::spans::{lines_of, long_path, moments_of};
+use http_client::Transport;
 use otlp_http::{Reply, Target};
 use otlp_ids::{SpanContext, SpanId, TraceFlags, TraceId};
-use otlp_sampler::{AlwaysOff, AlwaysOn, Sampler};
+use otlp_sampler::TraceIdRatio;
 use otlp_span::{Resource, Scope, SpanLimits};
 use std::alloc::Global;
-use std::cell::RefCell;
+use std::cell::{Cell, RefCell};
 use std::fmt::Write;
 use std::str;
 use std::sync::Arc;
 use std::test::Fail;
-use trace_api::{BodyPass, Clock, ManualClock, Provider, WordsRng};
+use trace_api::{BodyPass, Provider, WordsRng};
 use traced_http::KnownMethods;
 use traced_http::client::{Client, ClientParts, ClientRequest, SendFault};
 
-/// Words of traces and of spans.
-const WORDS: [u64; 6] = [1, 2, 3, 4, 5, 6];
+/// What a client is asked to send, and how it is made.
+#[derive(Clone, Copy)]
+struct Asked<'a> {
+    /// Whether its spans are sampled: a ratio of 1 to 1, or of 0.
+    sampled: u64,
+    /// The methods that are known.
+    listed: &'static str,
+    words: &'static [u64],
+    /// Whether it keeps its connection.
+    keeps: bool,
+    lines: &'static [Line],
+    /// By how many nanoseconds its clock goes on with each reading.
+    step: u64,
+    path: &'a str,
+    /// Whether its first request is within a child of a span that came from elsewhere.
+    is_child: bool,
+    requests: &'static [ClientRequest<'static>],
+}
+
+/// A GET without fields.
+const GET: ClientRequest<'static> = request("GET");
+
+/// A request without fields or a body.
+const fn request(method: &'static str) -> ClientRequest<'static> {
+    ClientRequest {
+        method,
+        fields: &[],
+        body: b"",
+    }
+}
+
+/// A reply that has what was asked for, after which the connection may be kept.
+const GOOD: &[u8] = b"HTTP/1.1 200 OK\r\nContent-Length: 2\r\n\r\nhi";
+
+/// A GET within a root, over a connection that has this reply.
+const fn asked(lines: &'static [Line]) -> Asked<'static> {
+    Asked {
+        sampled: 1,
+        listed: "",
+        words: &[1, 2, 3, 4, 5, 6],
+        keeps: false,
+        lines,
+        step: 0,
+        path: "/items?page=2",
+        is_child: false,
+        requests: &[GET],
+    }
+}
 
 /// The results of a client's requests.
 #[derive(Drop)]
@@ -28,6 +74,8 @@ struct Came {
     replies: String,
     /// What went out.
     sent: Vec<u8>,
+    /// How many connections were dialed, and how many requests went out.
+    counts: (usize, usize),
     /// A line for each span.
     spans: String,
     /// When each span starts and ends.
@@ -48,81 +96,6 @@ fn push_reply(lines: &mut String, reply: &Result<Reply, SendFault>) -> Result<()
     Ok(())
 }
 
-/// What a client is asked to send.
-#[derive(Drop)]
-enum Asked {
-    /// A GET within a child of this span, or within a root.
-    Get(Option<SpanContext>),
-    /// This request within a root.
-    Send(ClientRequest<'static>),
-}
-
-/// Asks a far side that does this, with identifiers by these words.
-fn ask(rt: &HostRuntime, words: &[u64], does: Does, asked: &[Asked]) -> Result<Came, Fail> {
-    ask_at(rt, AlwaysOn, "/items?page=2", words, does, asked)
-}
-
-/// The same at this path, of a client with this sampler.
-fn ask_at<S: Sampler + Drop>(
-    rt: &HostRuntime,
-    sampler: S,
-    path: &str,
-    words: &[u64],
-    does: Does,
-    asked: &[Asked],
-) -> Result<Came, Fail> {
-    let clock = ManualClock::new(1_000);
-    ask_by(rt, sampler, clock, "", path, words, does, asked)
-}
-
-/// The same by this clock. The known methods are those that a text lists.
-fn ask_by<S: Sampler + Drop, C: Clock + Drop>(
-    rt: &HostRuntime,
-    sampler: S,
-    clock: C,
-    listed: &str,
-    path: &str,
-    words: &[u64],
-    does: Does,
-    asked: &[Asked],
-) -> Result<Came, Fail> {
-    let alloc = rt.alloc();
-    let resource = Arc::new(alloc, Resource::new(alloc, Vec::new(alloc)))?;
-    let provider = Provider::new(sampler, resource, SpanLimits::default());
-    let sent = RefCell::new(Vec::new(alloc));
-    let parts = ClientParts {
-        tracer: provider.tracer(Arc::new(alloc, Scope::named(alloc, "test")?)?),
-        rng: WordsRng::new(Vec::from_slice(alloc, words)?),
-        clock: &clock,
-        dial: FarSide {
-            does,
-            clock: &clock,
-            sent: &sent,
-        },
-    };
-    let known = KnownMethods::parse(alloc, listed)?;
-    let mut client = Client::new(alloc, parts).with_known_methods(known);
-    let target = Target::new(alloc, "shop.example", 8080, path)?;
-    let mut pass = BodyPass::new(alloc, 8)?;
-    let mut replies = String::new(alloc);
-    for one in asked {
-        let reply = match one {
-            Asked::Get(parent) => client.get(parent.as_ref(), &target, &mut pass),
-            Asked::Send(request) => client.send(None, &target, request, &mut pass),
-        };
-        push_reply(&mut replies, &reply)?;
-    }
-    let untraced = client.untraced();
-    drop(client);
-    Ok(Came {
-        replies,
-        sent: sent.into_inner(),
-        spans: lines_of(alloc, pass.spans())?,
-        moments: moments_of(alloc, pass.spans())?,
-        untraced,
-    })
-}
-
 /// A context that came from elsewhere.
 fn caller(alloc: Global) -> Result<SpanContext, Fail> {
     Ok(SpanContext {
@@ -134,154 +107,404 @@ fn caller(alloc: Global) -> Result<SpanContext, Fail> {
     })
 }
 
-/// A reply that has what was asked for.
-const GOOD: &[u8] = b"HTTP/1.1 200 OK\r\nContent-Length: 2\r\n\r\nhi";
+/// Sends the requests over either kind of connection: the replies, and how many have no span.
+fn send_all<T: Transport + Drop>(
+    alloc: Global,
+    client: Client<'_, TraceIdRatio, WordsRng, &Steps, T>,
+    asked: &Asked<'_>,
+    pass: &mut BodyPass,
+) -> Result<(String, u64), Fail> {
+    let mut client = client.with_known_methods(KnownMethods::parse(alloc, asked.listed)?);
+    let mut replies = String::new(alloc);
+    let mut parent = if asked.is_child {
+        Some(caller(alloc)?)
+    } else {
+        None
+    };
+    let target = Target::new(alloc, "shop.example", 8080, asked.path)?;
+    for request in asked.requests {
+        let reply = if request.body.is_empty() && request.method == "GET" {
+            client.get(parent.as_ref(), &target, pass)
+        } else {
+            client.send(parent.as_ref(), &target, request, pass)
+        };
+        push_reply(&mut replies, &reply)?;
+        parent = None;
+    }
+    Ok((replies, client.untraced()))
+}
 
-#[test]
-fn each_request_has_a_span_of_its_own_whose_context_it_carries(
-    rt: HostRuntime,
-) -> Result<(), Fail> {
+/// What comes of what a client is asked.
+fn ask(rt: &HostRuntime, asked: &Asked<'_>) -> Result<Came, Fail> {
     let alloc = rt.alloc();
-    let asked = vec![in alloc; Asked::Get(Some(caller(alloc)?)), Asked::Get(None)]?;
-    let came = ask(&rt, &WORDS, Does::Replies(GOOD), &asked)?;
-    assert_equal(&rt, came.replies.as_str(), "200 hi\n200 hi\n");
-    let sent = b"GET /items?page=2 HTTP/1.1\r\nHost: shop.example:8080\r\n\
+    let resource = Arc::new(alloc, Resource::new(alloc, Vec::new(alloc)))?;
+    let sampler = TraceIdRatio::of(asked.sampled, 1).expect(rt, "a ratio");
+    let provider = Provider::new(sampler, resource, SpanLimits::default());
+    let log = Log {
+        bytes: RefCell::new(Vec::new(alloc)),
+        dials: Cell::new(0),
+        requests: Cell::new(0),
+    };
+    let clock = Steps::after(1_000, asked.step);
+    let parts = ClientParts {
+        tracer: provider.tracer(Arc::new(alloc, Scope::named(alloc, "test")?)?),
+        rng: WordsRng::new(Vec::from_slice(alloc, asked.words)?),
+        clock: &clock,
+        dial: FarSide {
+            lines: asked.lines,
+            clock: &clock,
+            log: &log,
+        },
+    };
+    let mut pass = BodyPass::new(alloc, 8)?;
+    let (replies, untraced) = if asked.keeps {
+        send_all(alloc, Client::keeping(alloc, parts), asked, &mut pass)?
+    } else {
+        send_all(alloc, Client::new(alloc, parts), asked, &mut pass)?
+    };
+    let counts = (log.dials.get(), log.requests.get());
+    Ok(Came {
+        replies,
+        sent: log.bytes.into_inner(),
+        counts,
+        spans: lines_of(alloc, pass.spans())?,
+        moments: moments_of(alloc, pass.spans())?,
+        untraced,
+    })
+}
+
+/// Requests, with what is replied, what goes out, what their spans say, and how many have none.
+type Row = (Asked<'static>, &'static str, &'static [u8], &'static str, u64);
+
+const ROWS: [Row; 6] = [
+    // A child of a caller's span, and a root; a secret in the query, which isn't on the span.
+    (
+        Asked {
+            path: "/items?page=2&sig=0f3c",
+            is_child: true,
+            requests: &[GET, GET],
+            ..asked(&[(&[GOOD], After::Closes), (&[GOOD], After::Closes)])
+        },
+        "200 hi\n200 hi\n",
+        b"GET /items?page=2&sig=0f3c HTTP/1.1\r\nHost: shop.example:8080\r\n\
         traceparent: 00-000000000000000000000000000000aa-0000000000000001-01\r\n\
         tracestate: shop=7\r\nConnection: close\r\n\r\n\
-        GET /items?page=2 HTTP/1.1\r\nHost: shop.example:8080\r\n\
+        GET /items?page=2&sig=0f3c HTTP/1.1\r\nHost: shop.example:8080\r\n\
         traceparent: 00-00000000000000020000000000000003-0000000000000004-01\r\n\
-        Connection: close\r\n\r\n";
-    assert_equal(&rt, came.sent.as_slice(), sent.as_slice());
-    let spans = "GET Client 0000000000000001 of 00000000000000bb \
+        Connection: close\r\n\r\n",
+        "GET Client 0000000000000001 of 00000000000000bb \
         http.request.method=Text(\"GET\") server.address=Text(\"shop.example\") \
-        server.port=Int(8080) url.full=Text(\"http://shop.example:8080/items?page=2\") \
+        server.port=Int(8080) \
+        url.full=Text(\"http://shop.example:8080/items?page=2&sig=REDACTED\") \
         network.protocol.version=Text(\"1.1\") http.response.status_code=Int(200)\n\
         GET Client 0000000000000004 \
         http.request.method=Text(\"GET\") server.address=Text(\"shop.example\") \
-        server.port=Int(8080) url.full=Text(\"http://shop.example:8080/items?page=2\") \
-        network.protocol.version=Text(\"1.1\") http.response.status_code=Int(200)\n";
-    assert_equal(&rt, came.spans.as_str(), spans);
-    assert_equal(&rt, came.untraced, 0);
-    Ok(())
-}
-
-/// How the line of each span begins that is an error.
-const BEGINS: &str = "GET Client 0000000000000003 error http.request.method=Text(\"GET\") \
-    server.address=Text(\"shop.example\") server.port=Int(8080) \
-    url.full=Text(\"http://shop.example:8080/items?page=2\")";
-
-/// What it says next where there was a connection.
-const VERSION: &str = " network.protocol.version=Text(\"1.1\")";
-
-/// What a far side does, what the client answers, and how the line of the span ends.
-const ERRORS: &[(Does, &str, &str)] = &[
-    (
-        Does::Replies(b"HTTP/1.1 400 Bad Request\r\nContent-Length: 2\r\n\r\nno"),
-        "400 no\n",
-        " http.response.status_code=Int(400) error.type=Text(\"400\")\n",
+        server.port=Int(8080) \
+        url.full=Text(\"http://shop.example:8080/items?page=2&sig=REDACTED\") \
+        network.protocol.version=Text(\"1.1\") http.response.status_code=Int(200)\n",
+        0,
     ),
+    // Fields and a body.
     (
-        Does::Replies(b"HTTP/1.1 099 Odd\r\nContent-Length: 0\r\n\r\n"),
-        "99 \n",
-        " http.response.status_code=Int(99) error.type=Text(\"99\")\n",
+        Asked {
+            requests: &[ClientRequest {
+                method: "POST",
+                fields: &[("Content-Type", b"text/plain"), ("X-Shop", b"caf\xe9\t7")],
+                body: b"two teas",
+            }],
+            ..asked(&[(&[GOOD], After::Closes)])
+        },
+        "200 hi\n",
+        b"POST /items?page=2 HTTP/1.1\r\nHost: shop.example:8080\r\n\
+        traceparent: 00-00000000000000010000000000000002-0000000000000003-01\r\n\
+        Content-Type: text/plain\r\nX-Shop: caf\xe9\t7\r\nContent-Length: 8\r\n\
+        Connection: close\r\n\r\ntwo teas",
+        "POST Client 0000000000000003 http.request.method=Text(\"POST\") \
+        server.address=Text(\"shop.example\") server.port=Int(8080) \
+        url.full=Text(\"http://shop.example:8080/items?page=2\") \
+        network.protocol.version=Text(\"1.1\") http.response.status_code=Int(200)\n",
+        0,
     ),
+    // A reply to a HEAD has no body; a method that is listed.
     (
-        Does::Replies(b"HTTP/1.1 503 Busy\r\nContent-Length: 9\r\n\r\n"),
-        "503 the message ended early\n",
-        " http.response.status_code=Int(503) error.type=Text(\"503\")\n",
+        Asked {
+            listed: "BREW",
+            requests: &[request("HEAD"), request("BREW")],
+            ..asked(&[
+                (&[b"HTTP/1.1 200 OK\r\nContent-Length: 2\r\n\r\n"], After::Closes),
+                (&[GOOD], After::Closes),
+            ])
+        },
+        "200 \n200 hi\n",
+        b"HEAD /items?page=2 HTTP/1.1\r\nHost: shop.example:8080\r\n\
+        traceparent: 00-00000000000000010000000000000002-0000000000000003-01\r\n\
+        Connection: close\r\n\r\n\
+        BREW /items?page=2 HTTP/1.1\r\nHost: shop.example:8080\r\n\
+        traceparent: 00-00000000000000040000000000000005-0000000000000006-01\r\n\
+        Connection: close\r\n\r\n",
+        "HTTP Client 0000000000000003 http.request.method=Text(\"_OTHER\") \
+        server.address=Text(\"shop.example\") server.port=Int(8080) \
+        url.full=Text(\"http://shop.example:8080/items?page=2\") \
+        http.request.method_original=Text(\"HEAD\") \
+        network.protocol.version=Text(\"1.1\") http.response.status_code=Int(200)\n\
+        BREW Client 0000000000000006 http.request.method=Text(\"BREW\") \
+        server.address=Text(\"shop.example\") server.port=Int(8080) \
+        url.full=Text(\"http://shop.example:8080/items?page=2\") \
+        network.protocol.version=Text(\"1.1\") http.response.status_code=Int(200)\n",
+        0,
     ),
+    // A request that expects a body says that it has none.
     (
-        Does::Replies(b"HTTP/1.1 405 No\r\nContent-Length: 0\r\n\r\n"),
-        "405 \n",
-        " http.response.status_code=Int(405) error.type=Text(\"405\")\n",
+        Asked {
+            requests: &[request("PUT")],
+            ..asked(&[(&[b"HTTP/1.1 399 Odd\r\nContent-Length: 0\r\n\r\n"], After::Closes)])
+        },
+        "399 \n",
+        b"PUT /items?page=2 HTTP/1.1\r\nHost: shop.example:8080\r\n\
+        traceparent: 00-00000000000000010000000000000002-0000000000000003-01\r\n\
+        Content-Length: 0\r\nConnection: close\r\n\r\n",
+        "PUT Client 0000000000000003 http.request.method=Text(\"PUT\") \
+        server.address=Text(\"shop.example\") server.port=Int(8080) \
+        url.full=Text(\"http://shop.example:8080/items?page=2\") \
+        network.protocol.version=Text(\"1.1\") http.response.status_code=Int(399)\n",
+        0,
     ),
+    // Not sampled.
     (
-        Does::Replies(b"HTTP/1.1 599 Odd\r\nContent-Length: 0\r\n\r\n"),
-        "599 \n",
-        " http.response.status_code=Int(599) error.type=Text(\"599\")\n",
+        Asked {
+            sampled: 0,
+            ..asked(&[(&[GOOD], After::Closes)])
+        },
+        "200 hi\n",
+        b"GET /items?page=2 HTTP/1.1\r\nHost: shop.example:8080\r\n\
+        traceparent: 00-00000000000000010000000000000002-0000000000000003-00\r\n\
+        Connection: close\r\n\r\n",
+        "",
+        0,
     ),
+    // No word for a span.
     (
-        Does::Replies(b"HTTP/1.1 200 OK\r\nContent-Length: 9\r\n\r\nhi"),
-        "200 the message ended early\n",
-        " http.response.status_code=Int(200) error.type=Text(\"no_body\")\n",
-    ),
-    (
-        Does::Refuses,
-        "no connection\n",
-        " error.type=Text(\"no_connection\")\n",
-    ),
-    (
-        Does::Stops,
-        "the request was not sent whole\n",
-        " error.type=Text(\"not_sent\")\n",
-    ),
-    (
-        Does::Replies(b"HTTP/1.1 2"),
-        "no reply: the message ended early\n",
-        " error.type=Text(\"no_reply\")\n",
-    ),
-    (
-        Does::Replies(b"SSH-2.0\r\n"),
-        "no reply: bad head: what came begins no head of HTTP/1.1, or has a bad field\n",
-        " error.type=Text(\"no_reply\")\n",
+        Asked {
+            words: &[],
+            ..asked(&[(&[GOOD], After::Closes)])
+        },
+        "200 hi\n",
+        b"GET /items?page=2 HTTP/1.1\r\nHost: shop.example:8080\r\nConnection: close\r\n\r\n",
+        "",
+        1,
     ),
 ];
 
 #[test]
-fn an_error_is_on_the_span(rt: HostRuntime) -> Result<(), Fail> {
+fn each_request_goes_out_and_has_a_span_whose_context_it_carries(
+    rt: HostRuntime,
+) -> Result<(), Fail> {
+    for (asked, replies, sent, spans, untraced) in &ROWS {
+        let came = ask(&rt, asked)?;
+        assert_equal(&rt, came.replies.as_str(), *replies);
+        assert_equal(&rt, came.sent.as_slice(), *sent);
+        assert_equal(&rt, came.spans.as_str(), *spans);
+        assert_equal(&rt, came.untraced, *untraced);
+    }
+    Ok(())
+}
+
+/// A far side, what the client answers, and how the line of the span goes on after its identifier and
+/// ends.
+type Ending = (&'static [Line], &'static str, &'static str, &'static str);
+
+const ENDINGS: [Ending; 9] = [
+    (
+        &[(&[b"HTTP/1.1 204 None\r\n\r\n"], After::Closes)],
+        "204 \n",
+        "",
+        " network.protocol.version=Text(\"1.1\") http.response.status_code=Int(204)\n",
+    ),
+    (
+        &[(&[b"HTTP/1.1 400 Bad\r\nContent-Length: 2\r\n\r\nno"], After::Closes)],
+        "400 no\n",
+        " error",
+        " network.protocol.version=Text(\"1.1\") http.response.status_code=Int(400) \
+        error.type=Text(\"400\")\n",
+    ),
+    (
+        &[(&[b"HTTP/1.1 099 Odd\r\nContent-Length: 0\r\n\r\n"], After::Closes)],
+        "99 \n",
+        " error",
+        " network.protocol.version=Text(\"1.1\") http.response.status_code=Int(99) \
+        error.type=Text(\"99\")\n",
+    ),
+    (
+        &[(&[b"HTTP/1.1 503 Busy\r\nContent-Length: 9\r\n\r\n"], After::Closes)],
+        "503 the message ended early\n",
+        " error",
+        " network.protocol.version=Text(\"1.1\") http.response.status_code=Int(503) \
+        error.type=Text(\"503\")\n",
+    ),
+    (
+        &[(&[b"HTTP/1.1 200 OK\r\nContent-Length: 9\r\n\r\nhi"], After::Closes)],
+        "200 the message ended early\n",
+        " error",
+        " network.protocol.version=Text(\"1.1\") http.response.status_code=Int(200) \
+        error.type=Text(\"no_body\")\n",
+    ),
+    (
+        &[],
+        "no connection\n",
+        " error",
+        " error.type=Text(\"no_connection\")\n",
+    ),
+    (
+        &[(&[], After::Stops)],
+        "the request was not sent whole\n",
+        " error",
+        " network.protocol.version=Text(\"1.1\") error.type=Text(\"not_sent\")\n",
+    ),
+    (
+        &[(&[b"HTTP/1.1 2"], After::Closes)],
+        "no reply: the message ended early\n",
+        " error",
+        " network.protocol.version=Text(\"1.1\") error.type=Text(\"no_reply\")\n",
+    ),
+    (
+        &[(&[b"SSH-2.0\r\n"], After::Closes)],
+        "no reply: bad head: what came begins no head of HTTP/1.1, or has a bad field\n",
+        " error",
+        " network.protocol.version=Text(\"1.1\") error.type=Text(\"no_reply\")\n",
+    ),
+];
+
+#[test]
+fn what_came_is_answered_and_is_on_the_span(rt: HostRuntime) -> Result<(), Fail> {
     let alloc = rt.alloc();
-    for (does, reply, ends) in ERRORS {
-        let came = ask(&rt, &WORDS, *does, &[Asked::Get(None)])?;
-        assert_equal(&rt, came.replies.as_str(), *reply);
-        let version = if matches!(does, Does::Refuses) {
-            ""
-        } else {
-            VERSION
-        };
-        let span = format!(in alloc; "{BEGINS}{version}{ends}")?;
+    for (lines, replies, mark, ends) in ENDINGS {
+        let came = ask(&rt, &asked(lines))?;
+        assert_equal(&rt, came.replies.as_str(), replies);
+        let span = format!(in alloc;
+            "GET Client 0000000000000003{mark} http.request.method=Text(\"GET\") \
+            server.address=Text(\"shop.example\") server.port=Int(8080) \
+            url.full=Text(\"http://shop.example:8080/items?page=2\"){ends}"
+        )?;
         assert_equal(&rt, came.spans.as_str(), span.as_str());
         assert_equal(&rt, came.untraced, 0);
     }
     Ok(())
 }
 
-/// Replies that are no errors, and their status.
-const STATUSES: &[(&[u8], u16)] = &[
-    (b"HTTP/1.1 204 None\r\n\r\n", 204),
-    (b"HTTP/1.1 304 Same\r\n\r\n", 304),
-    (b"HTTP/1.1 399 Odd\r\nContent-Length: 0\r\n\r\n", 399),
+/// Requests that are refused, and what the client says.
+const BAD: [(&[ClientRequest<'static>], &str); 3] = [
+    (
+        &[request("CONNECT")],
+        "bad method: a method is a token, and not CONNECT\n",
+    ),
+    (
+        &[ClientRequest {
+            method: "GET",
+            fields: &[("TraceParent", b"00")],
+            body: b"x",
+        }],
+        "bad field: a name that is no token or is the client's own, or a bad value\n",
+    ),
+    (
+        &[ClientRequest {
+            method: "TRACE",
+            fields: &[],
+            body: b"1",
+        }],
+        "bad body: a TRACE has none\n",
+    ),
 ];
 
 #[test]
-fn a_reply_below_400_is_no_error_and_its_status_is_on_the_span(
-    rt: HostRuntime,
-) -> Result<(), Fail> {
-    let alloc = rt.alloc();
-    for (reply, status) in STATUSES {
-        let came = ask(&rt, &WORDS, Does::Replies(*reply), &[Asked::Get(None)])?;
-        let said = format!(in alloc; "{status} \n")?;
-        assert_equal(&rt, came.replies.as_str(), said.as_str());
-        let spans = format!(in alloc;
-            "GET Client 0000000000000003 http.request.method=Text(\"GET\") \
-            server.address=Text(\"shop.example\") server.port=Int(8080) \
-            url.full=Text(\"http://shop.example:8080/items?page=2\")\
-            {VERSION} http.response.status_code=Int({status})\n"
-        )?;
-        assert_equal(&rt, came.spans.as_str(), spans.as_str());
-        assert_equal(&rt, came.untraced, 0);
+fn a_bad_request_is_refused_and_nothing_is_sent(rt: HostRuntime) -> Result<(), Fail> {
+    for (requests, replies) in BAD {
+        let bad = Asked {
+            requests,
+            ..asked(&[(&[GOOD], After::Closes)])
+        };
+        let came = ask(&rt, &bad)?;
+        assert_equal(&rt, came.replies.as_str(), replies);
+        assert_equal(&rt, (came.counts, came.spans.len(), came.untraced), ((0, 0), 0, 0));
     }
     Ok(())
 }
 
+/// A reply after which the connection is closed.
+const CLOSED: &[u8] = b"HTTP/1.1 200 OK\r\nConnection: close\r\nContent-Length: 2\r\n\r\nhi";
+
+/// The far side's connections, the request after a GET, what the two are answered, how many
+/// connections were dialed and how many requests went out.
+type Kept = (
+    &'static [Line],
+    &'static [ClientRequest<'static>],
+    &'static str,
+    (usize, usize),
+);
+
+const KEPT: [Kept; 7] = [
+    // Two requests go over one connection.
+    (
+        &[(&[GOOD, GOOD], After::Closes)],
+        &[GET, request("POST")],
+        "200 hi\n200 hi\n",
+        (1, 2),
+    ),
+    // The reply asks that the connection be closed.
+    (
+        &[(&[CLOSED, GOOD], After::Closes), (&[GOOD], After::Closes)],
+        &[GET, request("POST")],
+        "200 hi\n200 hi\n",
+        (2, 2),
+    ),
+    // The server has closed it in between, which shows before anything is sent.
+    (
+        &[(&[GOOD], After::Closes), (&[GOOD], After::Closes)],
+        &[GET, request("POST")],
+        "200 hi\n200 hi\n",
+        (2, 2),
+    ),
+    // It shows only when nothing of a reply comes: what is idempotent is sent again, once.
+    (
+        &[(&[GOOD], After::Ends), (&[GOOD], After::Closes)],
+        &[GET, request("PUT")],
+        "200 hi\n200 hi\n",
+        (2, 3),
+    ),
+    (
+        &[(&[GOOD], After::Ends), (&[], After::Closes)],
+        &[GET, request("DELETE")],
+        "200 hi\nno reply: the message ended early\n",
+        (2, 3),
+    ),
+    // Another request is not.
+    (
+        &[(&[GOOD], After::Ends), (&[GOOD], After::Closes)],
+        &[GET, request("POST")],
+        "200 hi\nno reply: the message ended early\n",
+        (1, 2),
+    ),
+    // Nor is one of which a part of the reply came.
+    (
+        &[(&[GOOD, b"HTTP/1.1 2"], After::Closes), (&[GOOD], After::Closes)],
+        &[GET, GET],
+        "200 hi\nno reply: the message ended early\n",
+        (1, 2),
+    ),
+];
+
 #[test]
-fn a_request_without_a_span_is_sent_and_counted(rt: HostRuntime) -> Result<(), Fail> {
-    let came = ask(&rt, &[], Does::Replies(GOOD), &[Asked::Get(None)])?;
-    assert_equal(&rt, came.replies.as_str(), "200 hi\n");
-    let sent = b"GET /items?page=2 HTTP/1.1\r\nHost: shop.example:8080\r\n\
-        Connection: close\r\n\r\n";
-    assert_equal(&rt, came.sent.as_slice(), sent.as_slice());
-    assert_equal(&rt, came.spans.as_str(), "");
-    assert_equal(&rt, came.untraced, 1);
+fn a_connection_is_kept_as_long_as_replies_let_it(rt: HostRuntime) -> Result<(), Fail> {
+    for (lines, requests, replies, counts) in KEPT {
+        let kept = Asked {
+            keeps: true,
+            requests,
+            ..asked(lines)
+        };
+        let came = ask(&rt, &kept)?;
+        assert_equal(&rt, came.replies.as_str(), replies);
+        assert_equal(&rt, (came.counts, came.untraced), (counts, 0));
+        assert_equal(&rt, came.moments.len(), 2);
+    }
     Ok(())
 }
 
@@ -289,179 +512,14 @@ fn a_request_without_a_span_is_sent_and_counted(rt: HostRuntime) -> Result<(), F
 fn a_span_starts_before_the_request_goes_out_and_ends_after_its_reply(
     rt: HostRuntime,
 ) -> Result<(), Fail> {
-    let asked = [Asked::Get(None), Asked::Get(None)];
-    let (clock, does) = (Steps::after(1_000), Does::Replies(GOOD));
-    let came = ask_by(&rt, AlwaysOn, clock, "", "/", &WORDS, does, &asked)?;
+    let two = Asked {
+        step: 10,
+        requests: &[GET, GET],
+        ..asked(&[(&[GOOD], After::Closes), (&[GOOD], After::Closes)])
+    };
+    let came = ask(&rt, &two)?;
     let moments: [(u64, u64); 2] = [(1_010, 1_030), (1_040, 1_060)];
     assert_equal(&rt, came.moments.as_slice(), moments.as_slice());
-    Ok(())
-}
-
-#[test]
-fn a_method_that_a_text_lists_is_known(rt: HostRuntime) -> Result<(), Fail> {
-    let asked = [Asked::Get(None), Asked::Send(request("BREW", &[], b""))];
-    let (clock, does) = (ManualClock::new(1_000), Does::Replies(GOOD));
-    let came = ask_by(&rt, AlwaysOn, clock, "BREW", "/", &WORDS, does, &asked)?;
-    let get = "HTTP Client 0000000000000003 http.request.method=Text(\"_OTHER\") ";
-    assert!(rt; came.spans.as_str().starts_with(get));
-    assert!(rt;
-        came.spans
-            .as_str()
-            .contains(" http.request.method_original=Text(\"GET\") ")
-    );
-    let brew = "\nBREW Client 0000000000000006 http.request.method=Text(\"BREW\") ";
-    assert!(rt; came.spans.as_str().contains(brew));
-    Ok(())
-}
-
-/// A request with two fields and a body.
-const ORDER: ClientRequest<'static> = ClientRequest {
-    method: "POST",
-    fields: &[("Content-Type", b"text/plain"), ("X-Shop", b"caf\xe9\t7")],
-    body: b"two teas",
-};
-
-#[test]
-fn fields_and_a_body_go_out_as_they_are(rt: HostRuntime) -> Result<(), Fail> {
-    let came = ask(&rt, &WORDS, Does::Replies(GOOD), &[Asked::Send(ORDER)])?;
-    assert_equal(&rt, came.replies.as_str(), "200 hi\n");
-    let sent = b"POST /items?page=2 HTTP/1.1\r\nHost: shop.example:8080\r\n\
-        traceparent: 00-00000000000000010000000000000002-0000000000000003-01\r\n\
-        Content-Type: text/plain\r\nX-Shop: caf\xe9\t7\r\nContent-Length: 8\r\n\
-        Connection: close\r\n\r\ntwo teas";
-    assert_equal(&rt, came.sent.as_slice(), sent.as_slice());
-    let spans = "POST Client 0000000000000003 http.request.method=Text(\"POST\") \
-        server.address=Text(\"shop.example\") server.port=Int(8080) \
-        url.full=Text(\"http://shop.example:8080/items?page=2\") \
-        network.protocol.version=Text(\"1.1\") http.response.status_code=Int(200)\n";
-    assert_equal(&rt, came.spans.as_str(), spans);
-    Ok(())
-}
-
-/// A method, how the head of its request ends, and how its span begins.
-const METHODS: [(&str, &str, &str); 8] = [
-    ("GET", "Connection: close\r\n\r\n", "GET Client"),
-    ("HEAD", "Connection: close\r\n\r\n", "HEAD Client"),
-    ("DELETE", "Connection: close\r\n\r\n", "DELETE Client"),
-    ("OPTIONS", "Connection: close\r\n\r\n", "OPTIONS Client"),
-    ("TRACE", "Connection: close\r\n\r\n", "TRACE Client"),
-    (
-        "PATCH",
-        "Content-Length: 0\r\nConnection: close\r\n\r\n",
-        "PATCH Client",
-    ),
-    (
-        "PUT",
-        "Content-Length: 0\r\nConnection: close\r\n\r\n",
-        "PUT Client",
-    ),
-    ("BREW", "Connection: close\r\n\r\n", "HTTP Client"),
-];
-
-/// A reply whose body isn't there, since it is one to a `HEAD`.
-const HEAD_ALONE: &[u8] = b"HTTP/1.1 200 OK\r\nContent-Length: 2\r\n\r\n";
-
-/// Whether a request of this method goes out so, and has such a span.
-fn goes_out(rt: &HostRuntime, method: &'static str, end: &str, name: &str) -> Result<bool, Fail> {
-    let alloc = rt.alloc();
-    let reply = if method == "HEAD" { HEAD_ALONE } else { GOOD };
-    let came = ask(
-        rt,
-        &WORDS,
-        Does::Replies(reply),
-        &[Asked::Send(request(method, &[], b""))],
-    )?;
-    let body = if method == "HEAD" { "" } else { "hi" };
-    let head = format!(in alloc;
-        "{method} /items?page=2 HTTP/1.1\r\n\
-        Host: shop.example:8080\r\n\
-        traceparent: 00-00000000000000010000000000000002-0000000000000003-01\r\n{end}"
-    )?;
-    let answer = format!(in alloc; "200 {body}\n")?;
-    Ok(
-        came.sent.as_slice() == head.as_bytes()
-            && came.replies.as_str() == answer.as_str()
-            && came.spans.as_str().starts_with(name),
-    )
-}
-
-#[test]
-fn each_method_is_sent_and_is_on_its_span(rt: HostRuntime) -> Result<(), Fail> {
-    for (method, end, name) in METHODS {
-        assert_equal(
-            &rt,
-            (method, goes_out(&rt, method, end, name)?),
-            (method, true),
-        );
-    }
-    let brew = Asked::Send(request("BREW", &[], b""));
-    let came = ask(&rt, &WORDS, Does::Replies(GOOD), &[brew])?;
-    let spans = "HTTP Client 0000000000000003 http.request.method=Text(\"_OTHER\") \
-        server.address=Text(\"shop.example\") server.port=Int(8080) \
-        url.full=Text(\"http://shop.example:8080/items?page=2\") \
-        http.request.method_original=Text(\"BREW\") \
-        network.protocol.version=Text(\"1.1\") http.response.status_code=Int(200)\n";
-    assert_equal(&rt, came.spans.as_str(), spans);
-    Ok(())
-}
-
-/// The method, the fields and the body of a request that is refused, and what the client says.
-const BAD: &[(&str, &[(&str, &[u8])], &[u8], &str)] = &[
-    ("", &[], b"", METHOD),
-    ("GE T", &[], b"", METHOD),
-    ("CONNECT", &[], b"", METHOD),
-    ("GET", &[("", b"1")], b"", FIELD),
-    ("GET", &[("X-A", b"1"), ("X B", b"1")], b"", FIELD),
-    ("GET", &[("X-A", b"1\r\nX-B: 2")], b"", FIELD),
-    ("GET", &[("TraceParent", b"00")], b"", FIELD),
-    ("PUT", &[("content-length", b"1")], b"1", FIELD),
-    ("TRACE", &[], b"1", BODY),
-];
-
-const METHOD: &str = "bad method: a method is a token, and not CONNECT\n";
-
-const FIELD: &str = "bad field: a name that is no token or is the client's own, or a bad value\n";
-
-const BODY: &str = "bad body: a TRACE has none\n";
-
-/// A request of a table.
-fn request(
-    method: &'static str,
-    fields: &'static [(&'static str, &'static [u8])],
-    body: &'static [u8],
-) -> ClientRequest<'static> {
-    ClientRequest {
-        method,
-        fields,
-        body,
-    }
-}
-
-#[test]
-fn a_bad_request_is_refused_and_nothing_is_sent(rt: HostRuntime) -> Result<(), Fail> {
-    for (method, fields, body, reply) in BAD {
-        let bad = Asked::Send(request(method, fields, body));
-        let came = ask(&rt, &WORDS, Does::Replies(GOOD), &[bad])?;
-        assert_equal(&rt, came.replies.as_str(), *reply);
-        assert_equal(
-            &rt,
-            (came.sent.len(), came.spans.len(), came.untraced),
-            (0, 0, 0),
-        );
-    }
-    Ok(())
-}
-
-#[test]
-fn a_request_that_is_not_sampled_says_so(rt: HostRuntime) -> Result<(), Fail> {
-    let asked = [Asked::Get(None)];
-    let came = ask_at(&rt, AlwaysOff, "/", &WORDS, Does::Replies(GOOD), &asked)?;
-    let sent = b"GET / HTTP/1.1\r\nHost: shop.example:8080\r\n\
-        traceparent: 00-00000000000000010000000000000002-0000000000000003-00\r\n\
-        Connection: close\r\n\r\n";
-    assert_equal(&rt, came.sent.as_slice(), sent.as_slice());
-    assert_equal(&rt, came.replies.as_str(), "200 hi\n");
-    assert_equal(&rt, (came.spans.len(), came.untraced), (0, 0));
     Ok(())
 }
 
@@ -470,36 +528,16 @@ fn a_long_path_goes_out_and_is_on_the_span(rt: HostRuntime) -> Result<(), Fail> 
     let alloc = rt.alloc();
     for len in [63, 64, 65, 8_192] {
         let path = long_path(alloc, len)?;
-        let asked = [Asked::Get(None)];
-        let came = ask_at(
-            &rt,
-            AlwaysOn,
-            path.as_str(),
-            &WORDS,
-            Does::Replies(GOOD),
-            &asked,
-        )?;
+        let long = Asked {
+            path: path.as_str(),
+            ..asked(&[(&[GOOD], After::Closes)])
+        };
+        let came = ask(&rt, &long)?;
         let sent = format!(in alloc; "GET {path} HTTP/1.1\r\n")?;
-        assert!(rt; came.sent.as_slice().starts_with(sent.as_bytes()));
+        assert_equal(&rt, (len, came.sent.starts_with(sent.as_bytes())), (len, true));
         let said = format!(in alloc; " url.full=Text(\"http://shop.example:8080{path}\") ")?;
-        assert!(rt; came.spans.as_str().contains(said.as_str()));
-        assert_equal(&rt, came.replies.as_str(), "200 hi\n");
-        assert_equal(&rt, came.untraced, 0);
+        assert_equal(&rt, (len, came.spans.as_str().contains(said.as_str())), (len, true));
+        assert_equal(&rt, (came.replies.as_str(), came.untraced), ("200 hi\n", 0));
     }
-    Ok(())
-}
-
-#[test]
-fn a_secret_of_the_query_goes_out_and_is_not_on_the_span(rt: HostRuntime) -> Result<(), Fail> {
-    let asked = [Asked::Get(None)];
-    let path = "/items?page=2&sig=0f3c";
-    let came = ask_at(&rt, AlwaysOn, path, &WORDS, Does::Replies(GOOD), &asked)?;
-    assert!(rt;
-        came.sent
-            .as_slice()
-            .starts_with(b"GET /items?page=2&sig=0f3c HTTP/1.1\r\n")
-    );
-    let said = " url.full=Text(\"http://shop.example:8080/items?page=2&sig=REDACTED\") ";
-    assert!(rt; came.spans.as_str().contains(said));
     Ok(())
 }

@@ -1,7 +1,8 @@
-//! The far side of a client: what it replies, and what it was sent.
-use http_exporter::{Buffered, Countdown, Deadline, Dial, Monotonic, TimedStream};
+//! The far side of a client: connections that give one reply after another, and what came.
+use super::clock::Steps;
+use http_exporter::{Buffered, Countdown, Deadline, Dial, IdleStream, Monotonic, TimedStream};
 use otlp_http::DeviceFailed;
-use std::cell::RefCell;
+use std::cell::{Cell, RefCell};
 use std::io::Read;
 use std::time::Duration;
 use trace_api::Clock;
@@ -16,25 +17,37 @@ impl Monotonic for Stopped {
     }
 }
 
-/// What a far side does, once it is dialed.
-#[derive(Clone, Copy)]
-pub(crate) enum Does {
-    /// It takes no connection.
-    Refuses,
+/// What a connection does after its last reply.
+#[derive(Clone, Copy, PartialEq, Eq)]
+pub(crate) enum After {
+    /// It closes, which the client can see before it sends.
+    Closes,
+    /// It closes, which shows only when nothing of a reply comes.
+    Ends,
     /// It takes no byte.
     Stops,
-    /// It takes all, and sends these bytes.
-    Replies(&'static [u8]),
 }
 
-/// A connection: what is left of its reply, if it takes what it is sent.
+/// A connection of the far side: the reply to each request on it, and what it does then.
+pub(crate) type Line = (&'static [&'static [u8]], After);
+
+/// What came to the far side.
 #[derive(Drop)]
-pub(crate) struct Talk<'a> {
-    reply: Option<&'static [u8]>,
-    sent: &'a RefCell<Vec<u8>>,
+pub(crate) struct Log {
+    pub(crate) bytes: RefCell<Vec<u8>>,
+    pub(crate) dials: Cell<usize>,
+    pub(crate) requests: Cell<usize>,
 }
 
-impl TimedStream for Talk<'_> {
+/// One end of a connection.
+#[derive(Drop)]
+pub(crate) struct LineEnd<'a> {
+    line: Line,
+    given: usize,
+    log: &'a Log,
+}
+
+impl TimedStream for LineEnd<'_> {
     ghost use Rattle.std.specs.Prelude.{None};
 
     ghost remaining = { λ _. None };
@@ -42,53 +55,60 @@ impl TimedStream for Talk<'_> {
     ghost contents = { λ _. None };
 
     fn read_within(&mut self, buf: &mut [u8], _timeout: Duration) -> Result<usize, DeviceFailed> {
-        match &mut self.reply {
-            Some(reply) => reply.read(buf).map_err(|_| DeviceFailed),
-            None => Err(DeviceFailed),
-        }
+        let Some(reply) = self.line.0.get(self.given) else {
+            return Ok(0);
+        };
+        self.given += 1;
+        let mut reply = *reply;
+        reply.read(buf).map_err(|_| DeviceFailed)
     }
 
     fn write_within(&mut self, buf: &[u8], _timeout: Duration) -> Result<usize, DeviceFailed> {
-        if self.reply.is_none() {
+        if self.given == self.line.0.len() && self.line.1 == After::Stops {
             return Err(DeviceFailed);
         }
-        let Ok(mut sent) = self.sent.try_borrow_mut() else {
+        let Ok(mut bytes) = self.log.bytes.try_borrow_mut() else {
             return Err(DeviceFailed);
         };
-        match sent.extend_from_slice(buf) {
-            Ok(()) => Ok(buf.len()),
-            Err(_) => Err(DeviceFailed),
+        bytes.extend_from_slice(buf).map_err(|_| DeviceFailed)?;
+        if buf.ends_with(b"\r\n\r\n") {
+            self.log.requests.update(|count| count.saturating_add(1));
         }
+        Ok(buf.len())
     }
 }
 
-/// A dial of a host and a port, whose far side does the same each time.
-#[derive(Drop)]
-pub(crate) struct FarSide<'a, C> {
-    pub(crate) does: Does,
-    /// The client's clock, which it reads when it is dialed.
-    pub(crate) clock: &'a C,
-    /// All bytes that it took.
-    pub(crate) sent: &'a RefCell<Vec<u8>>,
+impl IdleStream for LineEnd<'_> {
+    fn is_idle(&mut self) -> bool {
+        self.given < self.line.0.len() || self.line.1 == After::Ends
+    }
 }
 
-impl<'a, C: Clock> Dial for FarSide<'a, C> {
-    type Link = Buffered<Deadline<Talk<'a>, Stopped>>;
+/// A dial of a host, whose far side has these connections, one after another.
+#[derive(Drop)]
+pub(crate) struct FarSide<'a> {
+    pub(crate) lines: &'static [Line],
+    /// The client's clock, which it reads when it is dialed.
+    pub(crate) clock: &'a Steps,
+    pub(crate) log: &'a Log,
+}
 
-    fn dial(&mut self, host: &str, port: u16) -> Option<Self::Link> {
+impl<'a> Dial for FarSide<'a> {
+    type Link = Buffered<Deadline<LineEnd<'a>, Stopped>>;
+
+    fn dial(&mut self, host: &str, _port: u16) -> Option<Self::Link> {
         self.clock.now();
-        if host != "shop.example" || port != 8080 {
+        let at = self.log.dials.get();
+        let line = *self.lines.get(at)?;
+        if host != "shop.example" {
             return None;
         }
-        let reply = match self.does {
-            Does::Refuses => return None,
-            Does::Stops => None,
-            Does::Replies(reply) => Some(reply),
-        };
+        self.log.dials.set(at.saturating_add(1));
         let time = Countdown::start(Stopped, 1000, 1000)?;
-        let stream = Talk {
-            reply,
-            sent: self.sent,
+        let stream = LineEnd {
+            line,
+            given: 0,
+            log: self.log,
         };
         Some(Buffered::new(Deadline::new(stream, time)))
     }

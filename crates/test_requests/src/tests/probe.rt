@@ -1,50 +1,43 @@
 //! A service that the tests ask, and its results.
+use super::clock::Steps;
 use super::spans::{lines_of, moments_of};
 use bytes::{BufMut, Bytes};
 use http::{HeaderName, HeaderValue, Request, StatusCode};
 use http_server::{Config, Connection, Response, Service, serve};
 use otlp_sampler::AlwaysOn;
-use otlp_span::{Kind, Resource, Scope, SpanData, SpanLimits};
+use otlp_span::{Resource, Scope, SpanData, SpanLimits};
 use std::alloc::{AllocError, Global};
 use std::hash::RandomState;
 use std::sync::Arc;
 use std::test::Fail;
-use trace_api::{BodyPass, Clock, EndPass, ManualClock, Provider, Tracer, WordsRng};
+use trace_api::{BodyPass, Clock, EndPass, Provider, WordsRng};
 use traced_http::KnownMethods;
 use traced_http::server::{Handler, Origin, RequestSpan, ServerName, TracedService, Tracing};
 
-/// The moment of all spans, in nanoseconds since 1970.
-const AT: u64 = 1_000;
-
-/// Answers by the path, and keeps the span whose context it was given last.
+/// Answers by the path, and else with the span whose context it was given.
 #[derive(Drop)]
-struct Probe<'a, C> {
+struct Probe<'a> {
     alloc: Global,
     /// The service's clock, which it reads before it answers.
-    clock: &'a C,
-    given: String,
-    /// What spans of its own are made with.
-    tracer: Tracer<'a, AlwaysOn>,
-    rng: WordsRng,
+    clock: &'a Steps,
 }
 
-impl<C> Probe<'_, C> {
-    /// Says what there is to say on the request's span, and does some work within a span of its
-    /// own.
-    fn work<P: EndPass<SpanData>, O: Origin>(&mut self, span: &mut RequestSpan<O>, pass: &mut P) {
+impl Probe<'_> {
+    /// Says what there is to say on the request's span.
+    fn say<O: Origin>(&self, span: &mut RequestSpan<O>) -> Result<(), AllocError> {
         span.set("user.id", "u1");
-        span.event("read", AT, &[]);
-        let (rng, parent) = (&mut self.rng, span.context());
-        let (name, kind) = ("work", Kind::Internal);
-        if let Ok(mut own) = self
-            .tracer
-            .start_copied(self.alloc, rng, parent, name, kind, AT)
-        {
-            own.end(pass, AT);
+        span.event("read", 7, &[]);
+        span.exception("Full", "", "", 8, &[]);
+        let context = match span.context() {
+            Some(context) => Some(context.copy(self.alloc)?),
+            None => None,
+        };
+        if let Some(context) = context {
+            span.link(&context, &[]);
         }
-        span.exception("Full", "", "", AT, &[]);
         span.set_error("full");
         span.rename("worked");
+        Ok(())
     }
 }
 
@@ -54,7 +47,7 @@ fn status_in(path: &str) -> Option<StatusCode> {
     StatusCode::from_u16(status.parse().ok()?).ok()
 }
 
-impl<P: EndPass<SpanData>, C: Clock> Handler<P> for Probe<'_, C> {
+impl<P: EndPass<SpanData>> Handler<P> for Probe<'_> {
     fn route(&self, request: &Request<Bytes>) -> Option<&str> {
         match request.uri().path() {
             "/item/7" => Some("/item/{id}"),
@@ -67,28 +60,30 @@ impl<P: EndPass<SpanData>, C: Clock> Handler<P> for Probe<'_, C> {
         &mut self,
         request: &Request<Bytes>,
         span: &mut RequestSpan<O>,
-        pass: &mut P,
+        _pass: &mut P,
         response: &mut Response,
     ) -> Result<(), AllocError> {
         self.clock.now();
-        let alloc = self.alloc;
-        self.given = match span.context() {
-            Some(context) => format!(in alloc; "{}", context.span)?,
-            None => String::new(alloc),
-        };
-        if let Some(status) = status_in(request.uri().path()) {
+        let path = request.uri().path();
+        if let Some(status) = status_in(path) {
             response.status = status;
             return Ok(());
         }
-        match request.uri().path() {
+        match path {
             "/fails" => response.status = StatusCode::BAD_GATEWAY,
             "/memory" => return Err(AllocError),
-            "/works" => self.work(span, pass),
+            "/says" => self.say(span)?,
             "/dated" => {
                 let value = HeaderValue::from_static("Mon, 07 Nov 1994 00:00:00 GMT");
                 response.add_header(HeaderName::from_static("date"), value)?;
             }
-            _ => response.body.put_slice(b"hi")?,
+            _ => {
+                let text = match span.context() {
+                    Some(context) => format!(in self.alloc; "{}", context.span)?,
+                    None => String::from_str(self.alloc, "no span")?,
+                };
+                response.body.put_slice(text.as_bytes())?;
+            }
         }
         Ok(())
     }
@@ -103,8 +98,6 @@ pub(crate) struct Came {
     pub(crate) spans: String,
     /// When each span starts and ends.
     pub(crate) moments: Vec<(u64, u64)>,
-    /// The span of the context that the handler was given last.
-    pub(crate) given: String,
     /// How many requests have no span, and how many calls were left out.
     pub(crate) untraced: (u64, u64),
 }
@@ -118,15 +111,11 @@ fn serve_all<S: Service>(rt: &HostRuntime, service: &mut S, input: &[u8]) -> Res
     Ok(output)
 }
 
-/// Answers the requests of a connection, whose spans have identifiers by these words.
-pub(crate) fn answer(rt: &HostRuntime, words: &[u64], input: &[u8]) -> Result<Came, Fail> {
-    answer_by(rt, ManualClock::new(AT), "", words, input)
-}
-
-/// The same by this clock. The known methods are those that a text lists.
-pub(crate) fn answer_by<C: Clock + Drop>(
+/// Answers the requests of a connection by this clock, whose spans have identifiers by these words.
+/// The known methods are those that a text lists.
+pub(crate) fn answer(
     rt: &HostRuntime,
-    clock: C,
+    clock: Steps,
     listed: &str,
     words: &[u64],
     input: &[u8],
@@ -147,23 +136,17 @@ pub(crate) fn answer_by<C: Clock + Drop>(
     let probe = Probe {
         alloc,
         clock: &clock,
-        given: String::new(alloc),
-        tracer: provider.tracer(Arc::new(alloc, Scope::named(alloc, "own")?)?),
-        rng: WordsRng::new(Vec::from_slice(alloc, &[0xaa])?),
     };
     let known = KnownMethods::parse(alloc, listed)?;
-    let mut service = TracedService::new(alloc, tracing, probe, &mut pass).with_known_methods(
-        known,
-    );
+    let service = TracedService::new(alloc, tracing, probe, &mut pass);
+    let mut service = service.with_known_methods(known);
     let output = serve_all(rt, &mut service, input);
-    let given = service.handler().given.as_str().to_string(alloc);
     let untraced = (service.untraced(), service.left_out());
     drop(service);
     Ok(Came {
         output: output?,
         spans: lines_of(alloc, pass.spans())?,
         moments: moments_of(alloc, pass.spans())?,
-        given: given?,
         untraced,
     })
 }

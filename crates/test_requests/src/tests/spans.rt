@@ -5,7 +5,7 @@ use std::fmt::Write;
 use std::test::Fail;
 
 /// Adds the line of a span: its name, its kind, its identifier, its parent's, its status, its
-/// attributes, its events.
+/// attributes, its events, how many links it has.
 fn push_span(lines: &mut String, span: &SpanData) -> Result<(), Fail> {
     let id = span.context().span;
     write!(lines, "{} {:?} {id}", span.name(), span.kind())?;
@@ -20,6 +20,9 @@ fn push_span(lines: &mut String, span: &SpanData) -> Result<(), Fail> {
     }
     for event in span.events() {
         write!(lines, " at {}: {}", event.timestamp, event.name)?;
+    }
+    for link in span.links() {
+        write!(lines, " to {}", link.context.span)?;
     }
     writeln!(lines)?;
     Ok(())
@@ -41,4 +44,13 @@ pub(crate) fn lines_of(alloc: Global, spans: &[SpanData]) -> Result<String, Fail
         push_span(&mut lines, span)?;
     }
     Ok(lines)
+}
+
+/// A path of this many bytes after its slash.
+pub(crate) fn long_path(alloc: Global, len: usize) -> Result<String, Fail> {
+    let mut path = String::from_str(alloc, "/")?;
+    for _ in 0..len {
+        path.push_str("a")?;
+    }
+    Ok(path)
 }

@@ -1,15 +1,17 @@
-//! Connections over a network of our own: what is set of each before it is read or written. That
-//! the system does as it is set, runs of the programs show (`tools/export-runs`,
-//! `tools/collector-runs`).
+//! Connections over a network of our own: what is set of each before it is read or written, and when
+//! an attempt ends. That the system does as it is set, runs of the programs show
+//! (`tools/export-runs`).
 
 use crate::tests::equal::assert_equal;
-use http_exporter::{DEFAULT_EXPORT_TIMEOUT_MS, Dial, TcpDial};
-use otlp_collector::{CollectorArgs, collect};
-use otlp_http::{FaultRead, FaultWrite};
+use http_exporter::{Dial, HttpExporter, TcpDial};
+use otlp_http::{FaultRead, FaultWrite, Target};
+use retry_core::Outcome;
+use std::alloc::Global;
 use std::cell::Cell;
 use std::io::{self, ErrorKind, Read, Write};
-use std::net::{Ipv4Addr, Net, OpenListener, OpenStream, Shutdown, SocketAddr};
+use std::net::{Ipv4Addr, Net, OpenListener, OpenStream, SocketAddr};
 use std::os::fd::{AsRawFd, RawFd};
+use std::process::Abort;
 use std::time::{Clock, Duration};
 
 /// What was asked for of a network, and set of its connection.
@@ -38,12 +40,14 @@ impl Settings {
     }
 }
 
-/// A connection, over which this text comes. A read or a write that could wait for ever, or be held
-/// back, fails.
+/// A connection over which this text comes, so many bytes a read, and so many go in a write at most.
+/// A read or a write that could wait for ever, or be held back, fails.
 #[derive(Drop)]
 struct Connection<'a> {
     settings: &'a Settings,
     text: &'a [u8],
+    read: usize,
+    write: usize,
 }
 
 impl Read for Connection<'_> {
@@ -51,7 +55,8 @@ impl Read for Connection<'_> {
         if self.settings.read.get().is_none() {
             return Err(io::Error::from(ErrorKind::TimedOut));
         }
-        self.text.read(buf)
+        let room = buf.len().min(self.read);
+        self.text.read(&mut buf[..room])
     }
 }
 
@@ -60,7 +65,7 @@ impl Write for Connection<'_> {
         if self.settings.write.get().is_none() || !self.settings.is_prompt.get() {
             return Err(io::Error::from(ErrorKind::TimedOut));
         }
-        Ok(buf.len())
+        Ok(buf.len().min(self.write))
     }
 
     fn flush(&mut self) -> io::Result<()> {
@@ -83,17 +88,6 @@ impl OpenStream for Connection<'_> {
         self.settings.is_prompt.set(nodelay);
         Ok(())
     }
-
-    fn shutdown(&self, _how: Shutdown) -> io::Result<()> {
-        Ok(())
-    }
-
-    fn try_clone(&self) -> io::Result<Self> {
-        Ok(Connection {
-            settings: self.settings,
-            text: self.text,
-        })
-    }
 }
 
 impl AsRawFd for Connection<'_> {
@@ -102,26 +96,19 @@ impl AsRawFd for Connection<'_> {
     }
 }
 
-/// Gives the network's connection, again and again.
+/// No listener, since nobody dials this network's side.
 #[derive(Drop)]
-struct Listener<'a> {
-    settings: &'a Settings,
-    text: &'a [u8],
-}
+struct NoListener<'a>(Connection<'a>);
 
-impl<'a> OpenListener for Listener<'a> {
+impl<'a> OpenListener for NoListener<'a> {
     type Stream = Connection<'a>;
 
     fn accept(&self) -> io::Result<(Connection<'a>, SocketAddr)> {
-        let connection = Connection {
-            settings: self.settings,
-            text: self.text,
-        };
-        Ok((connection, SocketAddr::from((Ipv4Addr::LOCALHOST, 1u16))))
+        Err(io::Error::from(ErrorKind::Unsupported))
     }
 }
 
-impl AsRawFd for Listener<'_> {
+impl AsRawFd for NoListener<'_> {
     fn as_raw_fd(&self) -> RawFd {
         -1
     }
@@ -133,18 +120,17 @@ impl AsRawFd for Listener<'_> {
 struct Network<'a> {
     settings: &'a Settings,
     text: &'a [u8],
+    read: usize,
+    write: usize,
 }
 
 impl<'a> Net for Network<'a> {
     type Stream = Connection<'a>;
 
-    type Listener = Listener<'a>;
+    type Listener = NoListener<'a>;
 
-    fn bind(&self, _addr: SocketAddr) -> io::Result<Listener<'a>> {
-        Ok(Listener {
-            settings: self.settings,
-            text: self.text,
-        })
+    fn bind(&self, _addr: SocketAddr) -> io::Result<NoListener<'a>> {
+        Err(io::Error::from(ErrorKind::Unsupported))
     }
 
     fn connect(&self, _addr: SocketAddr) -> io::Result<Connection<'a>> {
@@ -160,6 +146,8 @@ impl<'a> Net for Network<'a> {
         Ok(Connection {
             settings: self.settings,
             text: self.text,
+            read: self.read,
+            write: self.write,
         })
     }
 
@@ -194,25 +182,32 @@ fn each_address_of_a_host_is_dialed_and_nothing_waits_longer_than_the_attempt(rt
     let network = Network {
         settings: &settings,
         text: b"abc",
+        read: 1_000,
+        write: 1_000,
     };
-    let mut dial = TcpDial::new(network, DEFAULT_EXPORT_TIMEOUT_MS);
+    let mut dial = TcpDial::new(network, 30_000);
     assert!(rt; dial.dial("elsewhere", 4318).is_none());
     assert_equal(&rt, settings.dials.get(), 0);
     let Some(mut link) = dial.dial("collector", 4318) else {
         assert!(rt; false);
         return;
     };
-    assert_equal(&rt, settings.dials.get(), 3);
-    assert_equal(&rt, settings.patience.get(), Some(Duration::from_secs(27)));
-    assert_equal(&rt, settings.is_prompt.get(), true);
+    let patience = settings.patience.get();
+    assert_equal(
+        &rt,
+        (settings.dials.get(), patience),
+        (3, Some(Duration::from_secs(27))),
+    );
     assert_equal(&rt, link.write(b"abcd").ok(), Some(4));
     assert_equal(&rt, settings.write.get(), Some(Duration::from_secs(26)));
     assert_equal(&rt, link.read(&mut [0; 8]).ok(), Some(3));
     assert_equal(&rt, settings.read.get(), Some(Duration::from_secs(25)));
     settings.seconds.set(31);
-    assert_equal(&rt, link.write(b"abcd").ok(), None);
-    assert_equal(&rt, link.read(&mut [0; 8]).ok(), None);
-    assert_equal(&rt, settings.write.get(), Some(Duration::from_secs(26)));
+    assert_equal(
+        &rt,
+        (link.write(b"a").ok(), link.read(&mut [0; 8]).ok()),
+        (None, None),
+    );
     assert_equal(&rt, FaultRead::failures(&link), 2);
 }
 
@@ -223,34 +218,68 @@ fn the_time_of_all_addresses_is_that_of_an_attempt(rt: HostRuntime) {
     let network = Network {
         settings: &settings,
         text: b"",
+        read: 1_000,
+        write: 1_000,
     };
-    let mut dial = TcpDial::new(network, DEFAULT_EXPORT_TIMEOUT_MS).within_ms(2500);
+    let mut dial = TcpDial::new(network, 30_000).within_ms(2500);
     assert!(rt; dial.dial("collector", 4318).is_none());
-    assert_equal(&rt, settings.dials.get(), 2);
     let half = Some(Duration::from_millis(500));
-    assert_equal(&rt, settings.patience.get(), half);
+    assert_equal(
+        &rt,
+        (settings.dials.get(), settings.patience.get()),
+        (2, half),
+    );
+}
+
+/// A reply, how many bytes of it come in a read and of the request go in a write, and what comes of
+/// an attempt that begins at second 0 and has ten: from second 1 on it dials, and from second 4 on
+/// each second a write or a read begins. With the second of its end, and for how many seconds the last
+/// read waits, if there is one.
+type Drip = (&'static [u8], (usize, usize), (Outcome, u64, Option<u64>));
+
+const DRIPS: [Drip; 4] = [
+    (
+        b"HTTP/1.1 200 OK\r\nContent-Length: 0\r\n\r\n",
+        (1, 1_000),
+        (Outcome::NoReply, 11, Some(1)),
+    ),
+    (
+        b"HTTP/1.1 200 OK\r\nContent-Length: 0\r\n\r\n",
+        (8, 1_000),
+        (Outcome::Delivered, 10, Some(1)),
+    ),
+    (
+        b"HTTP/1.1 400 No\r\nContent-Length: 9\r\n\r\nabcdefghi",
+        (8, 1_000),
+        (Outcome::Refused(400), 11, Some(1)),
+    ),
+    (b"", (1, 1), (Outcome::NoReply, 11, None)),
+];
+
+/// What comes of an attempt over this network, with the second of its end, and for how many seconds
+/// the last read waits.
+fn attempt(rt: &impl Abort, alloc: Global, network: Network<'_>) -> (Outcome, u64, Option<u64>) {
+    let target = Target::new(alloc, "collector", 4318, "/v1/traces").expect(rt, "a target");
+    let mut exporter = HttpExporter::new(alloc, network, target, 30_000).within_ms(10_000);
+    let outcome = exporter.attempt(b"abc");
+    let waited = network.settings.read.get().map(|time| time.as_secs());
+    (outcome, network.settings.seconds.get(), waited)
 }
 
 #[test]
-fn a_collector_waits_ten_seconds_for_each_write(rt: HostRuntime) {
-    let alloc = rt.alloc();
-    let settings = Settings::none();
-    let network = Network {
-        settings: &settings,
-        text: b"no request\r\n\r\n",
-    };
-    let args = CollectorArgs {
-        port: 4318,
-        count: 1,
-        max_body: 100,
-    };
-    let (mut output, mut faults) = (Vec::new(alloc), Vec::new(alloc));
-    assert_equal(
-        &rt,
-        collect(&network, alloc, args, &mut output, &mut faults),
-        0,
-    );
-    let printed = b"listening 4318\nconnection 1 400\n".as_slice();
-    assert_equal(&rt, output.as_slice(), printed);
-    assert_equal(&rt, settings.write.get(), Some(Duration::from_secs(10)));
+fn an_attempt_ends_where_a_reply_drips(rt: HostRuntime) {
+    for (text, (read, write), wanted) in DRIPS {
+        let settings = Settings::none();
+        let network = Network {
+            settings: &settings,
+            text,
+            read,
+            write,
+        };
+        assert_equal(
+            &rt,
+            (text, attempt(&rt, rt.alloc(), network)),
+            (text, wanted),
+        );
+    }
 }
