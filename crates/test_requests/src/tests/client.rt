@@ -18,6 +18,13 @@ use trace_api::{BodyPass, Provider, WordsRng};
 use traced_http::KnownMethods;
 use traced_http::client::{Client, ClientParts, ClientRequest, SendFault};
 
+/// The method, the fields and the body of a request.
+type Sent = (
+    &'static str,
+    &'static [(&'static str, &'static [u8])],
+    &'static [u8],
+);
+
 /// What a client is asked to send, and how it is made.
 #[derive(Clone, Copy)]
 struct Asked<'a> {
@@ -34,36 +41,33 @@ struct Asked<'a> {
     path: &'a str,
     /// Whether its first request is within a child of a span that came from elsewhere.
     is_child: bool,
-    requests: &'static [ClientRequest<'static>],
+    requests: &'static [Sent],
 }
 
 /// A GET without fields.
-const GET: ClientRequest<'static> = request("GET");
+const GET: Sent = ("GET", &[], b"");
 
-/// A request without fields or a body.
-const fn request(method: &'static str) -> ClientRequest<'static> {
-    ClientRequest {
-        method,
-        fields: &[],
-        body: b"",
-    }
-}
+/// Words of traces and of spans.
+const WORDS: [u64; 6] = [1, 2, 3, 4, 5, 6];
+
+/// The path that requests mostly have.
+const PATH: &str = "/items?page=2";
 
 /// A reply that has what was asked for, after which the connection may be kept.
 const GOOD: &[u8] = b"HTTP/1.1 200 OK\r\nContent-Length: 2\r\n\r\nhi";
 
-/// A GET within a root, over a connection that has this reply.
-const fn asked(lines: &'static [Line]) -> Asked<'static> {
+/// These requests within roots, over connections that have these replies.
+fn asked(lines: &'static [Line], requests: &'static [Sent]) -> Asked<'static> {
     Asked {
         sampled: 1,
         listed: "",
-        words: &[1, 2, 3, 4, 5, 6],
+        words: &WORDS,
         keeps: false,
         lines,
         step: 0,
-        path: "/items?page=2",
+        path: PATH,
         is_child: false,
-        requests: &[GET],
+        requests,
     }
 }
 
@@ -122,11 +126,16 @@ fn send_all<T: Transport + Drop>(
         None
     };
     let target = Target::new(alloc, "shop.example", 8080, asked.path)?;
-    for request in asked.requests {
-        let reply = if request.body.is_empty() && request.method == "GET" {
+    for (method, fields, body) in asked.requests {
+        let request = ClientRequest {
+            method,
+            fields,
+            body,
+        };
+        let reply = if fields.is_empty() && *method == "GET" {
             client.get(parent.as_ref(), &target, pass)
         } else {
-            client.send(parent.as_ref(), &target, request, pass)
+            client.send(parent.as_ref(), &target, &request, pass)
         };
         push_reply(&mut replies, &reply)?;
         parent = None;
@@ -174,16 +183,27 @@ fn ask(rt: &HostRuntime, asked: &Asked<'_>) -> Result<Came, Fail> {
 }
 
 /// Requests, with what is replied, what goes out, what their spans say, and how many have none.
-type Row = (Asked<'static>, &'static str, &'static [u8], &'static str, u64);
+type Row = (
+    Asked<'static>,
+    &'static str,
+    &'static [u8],
+    &'static str,
+    u64,
+);
 
 const ROWS: [Row; 6] = [
     // A child of a caller's span, and a root; a secret in the query, which isn't on the span.
     (
         Asked {
+            sampled: 1,
+            listed: "",
+            words: &WORDS,
+            keeps: false,
+            lines: &[(&[GOOD], After::Closes), (&[GOOD], After::Closes)],
+            step: 0,
             path: "/items?page=2&sig=0f3c",
             is_child: true,
             requests: &[GET, GET],
-            ..asked(&[(&[GOOD], After::Closes), (&[GOOD], After::Closes)])
         },
         "200 hi\n200 hi\n",
         b"GET /items?page=2&sig=0f3c HTTP/1.1\r\nHost: shop.example:8080\r\n\
@@ -207,12 +227,19 @@ const ROWS: [Row; 6] = [
     // Fields and a body.
     (
         Asked {
-            requests: &[ClientRequest {
-                method: "POST",
-                fields: &[("Content-Type", b"text/plain"), ("X-Shop", b"caf\xe9\t7")],
-                body: b"two teas",
-            }],
-            ..asked(&[(&[GOOD], After::Closes)])
+            sampled: 1,
+            listed: "",
+            words: &WORDS,
+            keeps: false,
+            lines: &[(&[GOOD], After::Closes)],
+            step: 0,
+            path: PATH,
+            is_child: false,
+            requests: &[(
+                "POST",
+                &[("Content-Type", b"text/plain"), ("X-Shop", b"caf\xe9\t7")],
+                b"two teas",
+            )],
         },
         "200 hi\n",
         b"POST /items?page=2 HTTP/1.1\r\nHost: shop.example:8080\r\n\
@@ -228,12 +255,21 @@ const ROWS: [Row; 6] = [
     // A reply to a HEAD has no body; a method that is listed.
     (
         Asked {
+            sampled: 1,
             listed: "BREW",
-            requests: &[request("HEAD"), request("BREW")],
-            ..asked(&[
-                (&[b"HTTP/1.1 200 OK\r\nContent-Length: 2\r\n\r\n"], After::Closes),
+            words: &WORDS,
+            keeps: false,
+            lines: &[
+                (
+                    &[b"HTTP/1.1 200 OK\r\nContent-Length: 2\r\n\r\n"],
+                    After::Closes,
+                ),
                 (&[GOOD], After::Closes),
-            ])
+            ],
+            step: 0,
+            path: PATH,
+            is_child: false,
+            requests: &[("HEAD", &[], b""), ("BREW", &[], b"")],
         },
         "200 \n200 hi\n",
         b"HEAD /items?page=2 HTTP/1.1\r\nHost: shop.example:8080\r\n\
@@ -256,8 +292,18 @@ const ROWS: [Row; 6] = [
     // A request that expects a body says that it has none.
     (
         Asked {
-            requests: &[request("PUT")],
-            ..asked(&[(&[b"HTTP/1.1 399 Odd\r\nContent-Length: 0\r\n\r\n"], After::Closes)])
+            sampled: 1,
+            listed: "",
+            words: &WORDS,
+            keeps: false,
+            lines: &[(
+                &[b"HTTP/1.1 399 Odd\r\nContent-Length: 0\r\n\r\n"],
+                After::Closes,
+            )],
+            step: 0,
+            path: PATH,
+            is_child: false,
+            requests: &[("PUT", &[], b"")],
         },
         "399 \n",
         b"PUT /items?page=2 HTTP/1.1\r\nHost: shop.example:8080\r\n\
@@ -273,7 +319,14 @@ const ROWS: [Row; 6] = [
     (
         Asked {
             sampled: 0,
-            ..asked(&[(&[GOOD], After::Closes)])
+            listed: "",
+            words: &WORDS,
+            keeps: false,
+            lines: &[(&[GOOD], After::Closes)],
+            step: 0,
+            path: PATH,
+            is_child: false,
+            requests: &[GET],
         },
         "200 hi\n",
         b"GET /items?page=2 HTTP/1.1\r\nHost: shop.example:8080\r\n\
@@ -285,8 +338,15 @@ const ROWS: [Row; 6] = [
     // No word for a span.
     (
         Asked {
+            sampled: 1,
+            listed: "",
             words: &[],
-            ..asked(&[(&[GOOD], After::Closes)])
+            keeps: false,
+            lines: &[(&[GOOD], After::Closes)],
+            step: 0,
+            path: PATH,
+            is_child: false,
+            requests: &[GET],
         },
         "200 hi\n",
         b"GET /items?page=2 HTTP/1.1\r\nHost: shop.example:8080\r\nConnection: close\r\n\r\n",
@@ -321,28 +381,40 @@ const ENDINGS: [Ending; 9] = [
         " network.protocol.version=Text(\"1.1\") http.response.status_code=Int(204)\n",
     ),
     (
-        &[(&[b"HTTP/1.1 400 Bad\r\nContent-Length: 2\r\n\r\nno"], After::Closes)],
+        &[(
+            &[b"HTTP/1.1 400 Bad\r\nContent-Length: 2\r\n\r\nno"],
+            After::Closes,
+        )],
         "400 no\n",
         " error",
         " network.protocol.version=Text(\"1.1\") http.response.status_code=Int(400) \
         error.type=Text(\"400\")\n",
     ),
     (
-        &[(&[b"HTTP/1.1 099 Odd\r\nContent-Length: 0\r\n\r\n"], After::Closes)],
+        &[(
+            &[b"HTTP/1.1 099 Odd\r\nContent-Length: 0\r\n\r\n"],
+            After::Closes,
+        )],
         "99 \n",
         " error",
         " network.protocol.version=Text(\"1.1\") http.response.status_code=Int(99) \
         error.type=Text(\"99\")\n",
     ),
     (
-        &[(&[b"HTTP/1.1 503 Busy\r\nContent-Length: 9\r\n\r\n"], After::Closes)],
+        &[(
+            &[b"HTTP/1.1 503 Busy\r\nContent-Length: 9\r\n\r\n"],
+            After::Closes,
+        )],
         "503 the message ended early\n",
         " error",
         " network.protocol.version=Text(\"1.1\") http.response.status_code=Int(503) \
         error.type=Text(\"503\")\n",
     ),
     (
-        &[(&[b"HTTP/1.1 200 OK\r\nContent-Length: 9\r\n\r\nhi"], After::Closes)],
+        &[(
+            &[b"HTTP/1.1 200 OK\r\nContent-Length: 9\r\n\r\nhi"],
+            After::Closes,
+        )],
         "200 the message ended early\n",
         " error",
         " network.protocol.version=Text(\"1.1\") http.response.status_code=Int(200) \
@@ -378,7 +450,7 @@ const ENDINGS: [Ending; 9] = [
 fn what_came_is_answered_and_is_on_the_span(rt: HostRuntime) -> Result<(), Fail> {
     let alloc = rt.alloc();
     for (lines, replies, mark, ends) in ENDINGS {
-        let came = ask(&rt, &asked(lines))?;
+        let came = ask(&rt, &asked(lines, &[GET]))?;
         assert_equal(&rt, came.replies.as_str(), replies);
         let span = format!(in alloc;
             "GET Client 0000000000000003{mark} http.request.method=Text(\"GET\") \
@@ -392,39 +464,28 @@ fn what_came_is_answered_and_is_on_the_span(rt: HostRuntime) -> Result<(), Fail>
 }
 
 /// Requests that are refused, and what the client says.
-const BAD: [(&[ClientRequest<'static>], &str); 3] = [
+const BAD: [(&[Sent], &str); 3] = [
     (
-        &[request("CONNECT")],
+        &[("CONNECT", &[], b"")],
         "bad method: a method is a token, and not CONNECT\n",
     ),
     (
-        &[ClientRequest {
-            method: "GET",
-            fields: &[("TraceParent", b"00")],
-            body: b"x",
-        }],
+        &[("GET", &[("TraceParent", b"00")], b"x")],
         "bad field: a name that is no token or is the client's own, or a bad value\n",
     ),
-    (
-        &[ClientRequest {
-            method: "TRACE",
-            fields: &[],
-            body: b"1",
-        }],
-        "bad body: a TRACE has none\n",
-    ),
+    (&[("TRACE", &[], b"1")], "bad body: a TRACE has none\n"),
 ];
 
 #[test]
 fn a_bad_request_is_refused_and_nothing_is_sent(rt: HostRuntime) -> Result<(), Fail> {
     for (requests, replies) in BAD {
-        let bad = Asked {
-            requests,
-            ..asked(&[(&[GOOD], After::Closes)])
-        };
-        let came = ask(&rt, &bad)?;
+        let came = ask(&rt, &asked(&[(&[GOOD], After::Closes)], requests))?;
         assert_equal(&rt, came.replies.as_str(), replies);
-        assert_equal(&rt, (came.counts, came.spans.len(), came.untraced), ((0, 0), 0, 0));
+        assert_equal(
+            &rt,
+            (came.counts, came.spans.len(), came.untraced),
+            ((0, 0), 0, 0),
+        );
     }
     Ok(())
 }
@@ -436,7 +497,7 @@ const CLOSED: &[u8] = b"HTTP/1.1 200 OK\r\nConnection: close\r\nContent-Length: 
 /// connections were dialed and how many requests went out.
 type Kept = (
     &'static [Line],
-    &'static [ClientRequest<'static>],
+    &'static [Sent],
     &'static str,
     (usize, usize),
 );
@@ -445,47 +506,50 @@ const KEPT: [Kept; 7] = [
     // Two requests go over one connection.
     (
         &[(&[GOOD, GOOD], After::Closes)],
-        &[GET, request("POST")],
+        &[GET, ("POST", &[], b"")],
         "200 hi\n200 hi\n",
         (1, 2),
     ),
     // The reply asks that the connection be closed.
     (
         &[(&[CLOSED, GOOD], After::Closes), (&[GOOD], After::Closes)],
-        &[GET, request("POST")],
+        &[GET, ("POST", &[], b"")],
         "200 hi\n200 hi\n",
         (2, 2),
     ),
     // The server has closed it in between, which shows before anything is sent.
     (
         &[(&[GOOD], After::Closes), (&[GOOD], After::Closes)],
-        &[GET, request("POST")],
+        &[GET, ("POST", &[], b"")],
         "200 hi\n200 hi\n",
         (2, 2),
     ),
     // It shows only when nothing of a reply comes: what is idempotent is sent again, once.
     (
         &[(&[GOOD], After::Ends), (&[GOOD], After::Closes)],
-        &[GET, request("PUT")],
+        &[GET, ("PUT", &[], b"")],
         "200 hi\n200 hi\n",
         (2, 3),
     ),
     (
         &[(&[GOOD], After::Ends), (&[], After::Closes)],
-        &[GET, request("DELETE")],
+        &[GET, ("DELETE", &[], b"")],
         "200 hi\nno reply: the message ended early\n",
         (2, 3),
     ),
     // Another request is not.
     (
         &[(&[GOOD], After::Ends), (&[GOOD], After::Closes)],
-        &[GET, request("POST")],
+        &[GET, ("POST", &[], b"")],
         "200 hi\nno reply: the message ended early\n",
         (1, 2),
     ),
     // Nor is one of which a part of the reply came.
     (
-        &[(&[GOOD, b"HTTP/1.1 2"], After::Closes), (&[GOOD], After::Closes)],
+        &[
+            (&[GOOD, b"HTTP/1.1 2"], After::Closes),
+            (&[GOOD], After::Closes),
+        ],
         &[GET, GET],
         "200 hi\nno reply: the message ended early\n",
         (1, 2),
@@ -497,8 +561,7 @@ fn a_connection_is_kept_as_long_as_replies_let_it(rt: HostRuntime) -> Result<(),
     for (lines, requests, replies, counts) in KEPT {
         let kept = Asked {
             keeps: true,
-            requests,
-            ..asked(lines)
+            ..asked(lines, requests)
         };
         let came = ask(&rt, &kept)?;
         assert_equal(&rt, came.replies.as_str(), replies);
@@ -514,8 +577,10 @@ fn a_span_starts_before_the_request_goes_out_and_ends_after_its_reply(
 ) -> Result<(), Fail> {
     let two = Asked {
         step: 10,
-        requests: &[GET, GET],
-        ..asked(&[(&[GOOD], After::Closes), (&[GOOD], After::Closes)])
+        ..asked(
+            &[(&[GOOD], After::Closes), (&[GOOD], After::Closes)],
+            &[GET, GET],
+        )
     };
     let came = ask(&rt, &two)?;
     let moments: [(u64, u64); 2] = [(1_010, 1_030), (1_040, 1_060)];
@@ -530,13 +595,21 @@ fn a_long_path_goes_out_and_is_on_the_span(rt: HostRuntime) -> Result<(), Fail> 
         let path = long_path(alloc, len)?;
         let long = Asked {
             path: path.as_str(),
-            ..asked(&[(&[GOOD], After::Closes)])
+            ..asked(&[(&[GOOD], After::Closes)], &[GET])
         };
         let came = ask(&rt, &long)?;
         let sent = format!(in alloc; "GET {path} HTTP/1.1\r\n")?;
-        assert_equal(&rt, (len, came.sent.starts_with(sent.as_bytes())), (len, true));
+        assert_equal(
+            &rt,
+            (len, came.sent.starts_with(sent.as_bytes())),
+            (len, true),
+        );
         let said = format!(in alloc; " url.full=Text(\"http://shop.example:8080{path}\") ")?;
-        assert_equal(&rt, (len, came.spans.as_str().contains(said.as_str())), (len, true));
+        assert_equal(
+            &rt,
+            (len, came.spans.as_str().contains(said.as_str())),
+            (len, true),
+        );
         assert_equal(&rt, (came.replies.as_str(), came.untraced), ("200 hi\n", 0));
     }
     Ok(())

@@ -4,6 +4,7 @@ use super::spans::{lines_of, moments_of};
 use bytes::{BufMut, Bytes};
 use http::{HeaderName, HeaderValue, Request, StatusCode};
 use http_server::{Config, Connection, Response, Service, serve};
+use otlp_ids::{SpanContext, SpanId, TraceFlags, TraceId};
 use otlp_sampler::AlwaysOn;
 use otlp_span::{Resource, Scope, SpanData, SpanLimits};
 use std::alloc::{AllocError, Global};
@@ -24,20 +25,20 @@ struct Probe<'a> {
 
 impl Probe<'_> {
     /// Says what there is to say on the request's span.
-    fn say<O: Origin>(&self, span: &mut RequestSpan<O>) -> Result<(), AllocError> {
+    fn say<O: Origin>(&self, span: &mut RequestSpan<O>) {
         span.set("user.id", "u1");
         span.event("read", 7, &[]);
         span.exception("Full", "", "", 8, &[]);
-        let context = match span.context() {
-            Some(context) => Some(context.copy(self.alloc)?),
-            None => None,
+        let far = SpanContext {
+            trace: TraceId([1; 16]),
+            span: SpanId([9; 8]),
+            flags: TraceFlags(1),
+            remote: true,
+            state: String::new(self.alloc),
         };
-        if let Some(context) = context {
-            span.link(&context, &[]);
-        }
+        span.link(&far, &[]);
         span.set_error("full");
         span.rename("worked");
-        Ok(())
     }
 }
 
@@ -72,7 +73,7 @@ impl<P: EndPass<SpanData>> Handler<P> for Probe<'_> {
         match path {
             "/fails" => response.status = StatusCode::BAD_GATEWAY,
             "/memory" => return Err(AllocError),
-            "/says" => self.say(span)?,
+            "/says" => self.say(span),
             "/dated" => {
                 let value = HeaderValue::from_static("Mon, 07 Nov 1994 00:00:00 GMT");
                 response.add_header(HeaderName::from_static("date"), value)?;
