@@ -4,6 +4,7 @@ ghost use Rattle.std.specs.Prelude.{◌≡◌, codes, option_copied};
 ghost use Rattle.http.specs.Request.{head_of};
 ghost use Rattle.http_header.specs.HeaderMap.{get_all};
 ghost use Rattle.http_uri.specs.Uri.{uri_path};
+ghost use Rattle.http_connection.specs.Heads.{head_in};
 ghost use Rattle.otlp_receiver.specs.Requests as spec;
 
 use crate::reply::format::Format;
@@ -64,7 +65,7 @@ pub fn is_json(request: &Request<Bytes>) -> bool
 /// In what a request is refused: an export in its own type (OTLP Specification, "OTLP/HTTP
 /// Response"), any other by a text. A request whose head isn't known is taken for an export.
 pub fn denial_format(request: Option<&Request<Bytes>>) -> Format
-    ensures { result ≡ spec.denial_format (spec.head_in (option_copied request.entry)) }
+    ensures { result ≡ spec.denial_format (head_in (option_copied request.entry)) }
 {
     let Some(request) = request else {
         return Format::Protobuf;
