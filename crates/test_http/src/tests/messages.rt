@@ -8,57 +8,48 @@ use rand_pcg::Pcg32;
 use std::alloc::Global;
 use std::process::Abort;
 
-/// Checks what a message is read as, byte by byte and at once: so many times `b`, or too large a
-/// body; and how many of its bytes are left.
-fn assert_large(rt: &impl Abort, alloc: Global, is_post: bool, text: Text<'_>, left: usize) {
-    let text = bytes_of(rt, alloc, text);
-    for most in [1usize, 65_536] {
-        let (body, lack, rest, failures) = found(
-            rt,
-            alloc,
-            &text,
-            is_post,
-            (most, FailingCalls::Never),
-        );
-        let whole = (65_536, None);
-        let large = (0, Some((false, HttpFault::TooLarge)));
-        let wanted = if left == 0 { whole } else { large };
-        assert_equal(rt, (body.len(), lack), wanted);
-        assert_equal(rt, body.iter().all(|byte| *byte == b'b'), true);
-        assert_equal(rt, (rest, failures), (left, 0));
-    }
-}
+/// All bytes a call, as many as are wanted.
+const AT_ONCE: (usize, FailingCalls) = (65_536, FailingCalls::Never);
 
-/// Heads of messages with a body in chunks, and whether they are requests.
-const CHUNKED: [(bool, &[u8]); 2] = [
+/// Large messages, of which some are requests: their text, and how many of their bytes are left where
+/// the body is too large. Else it is 65,536 times `b`.
+const LARGE: [(bool, Text<'static>, usize); 3] = [
     (
         false,
-        b"HTTP/1.1 200 OK\r\nTransfer-Encoding: chunked\r\n\r\n",
+        (
+            b"HTTP/1.1 200 OK\r\nTransfer-Encoding: chunked\r\n\r\n",
+            b"1\r\nb\r\n",
+            65_536,
+            b"0\r\n\r\n",
+        ),
+        0,
     ),
     (
         true,
-        b"POST / HTTP/1.1\r\nTransfer-Encoding: Chunked\r\n\r\n",
+        (
+            b"POST / HTTP/1.1\r\nTransfer-Encoding: Chunked\r\n\r\n",
+            b"1\r\nb\r\n",
+            65_537,
+            b"0\r\n\r\n",
+        ),
+        8,
     ),
+    (false, (b"HTTP/1.1 200 OK\r\n\r\n", b"b", 65_536, b""), 0),
 ];
 
 #[test]
 fn bodies_of_64_kib_are_read_and_larger_ones_are_not(rt: HostRuntime) {
-    let alloc = rt.alloc();
-    for (is_post, head) in CHUNKED {
-        for (count, left) in [(65_536, 0), (65_537, 8)] {
-            let text: Text<'_> = (head, b"1\r\nb\r\n", count, b"0\r\n\r\n");
-            assert_large(&rt, alloc, is_post, text, left);
-        }
+    for (is_post, text, left) in LARGE {
+        let text = bytes_of(&rt, rt.alloc(), text);
+        let (body, lack, rest, _) = found(&rt, rt.alloc(), &text, is_post, AT_ONCE);
+        let wanted = if left == 0 {
+            (65_536, None)
+        } else {
+            (0, Some((false, HttpFault::TooLarge)))
+        };
+        assert_equal(&rt, ((body.len(), lack), rest), (wanted, left));
+        assert_equal(&rt, body.iter().all(|byte| *byte == b'b'), true);
     }
-    let head = b"HTTP/1.1 200 OK\r\nContent-Length: 65536\r\n\r\n";
-    assert_large(&rt, alloc, false, (head, b"b", 65_536, b""), 0);
-    assert_large(
-        &rt,
-        alloc,
-        false,
-        (b"HTTP/1.1 200 OK\r\n\r\n", b"b", 65_536, b""),
-        0,
-    );
 }
 
 #[test]
@@ -66,10 +57,8 @@ fn interim_heads_may_come_after_many_empty_lines(rt: HostRuntime) {
     let alloc = rt.alloc();
     let interim = bytes_of(&rt, alloc, (b"", b"\n", 16_366, b"HTTP/1.1 100 N\r\n\r\n"));
     let text = bytes_of(&rt, alloc, (b"", &interim, 16, REPLY));
-    for most in [1usize, 65_536] {
-        let (body, lack, rest, _) = found(&rt, alloc, &text, false, (most, FailingCalls::Never));
-        assert_equal(&rt, (body.as_slice(), lack, rest), (BODY, None, 0));
-    }
+    let (body, lack, rest, _) = found(&rt, alloc, &text, false, AT_ONCE);
+    assert_equal(&rt, (body.as_slice(), lack, rest), (BODY, None, 0));
 }
 
 /// Checks what a message comes to where each read of one byte fails in turn.
@@ -112,7 +101,7 @@ fn change(rt: &impl Abort, rng: &mut Pcg32, text: &mut Vec<u8>, from: u32) {
 
 /// Why there is no body in a text, which has to be read the same at once and in parts of three bytes.
 fn lack_in_parts(rt: &impl Abort, alloc: Global, text: &[u8], is_post: bool) -> Lack {
-    let whole = found(rt, alloc, text, is_post, (65_536, FailingCalls::Never));
+    let whole = found(rt, alloc, text, is_post, AT_ONCE);
     let parts = found(rt, alloc, text, is_post, (3, FailingCalls::Never));
     let (_, lack, _, _) = &whole;
     let lack = *lack;
@@ -120,21 +109,19 @@ fn lack_in_parts(rt: &impl Abort, alloc: Global, text: &[u8], is_post: bool) -> 
     lack
 }
 
-/// From which byte on each of the messages is changed, and how many times.
-const CHANGES: [(u32, u32); 4] = [(0, 20_000), (0, 25_000), (47, 20_000), (26, 25_000)];
+/// From which byte on each of the messages is changed.
+const CHANGES: [u32; 4] = [0, 0, 47, 26];
 
 #[test]
 fn changed_messages_are_read_the_same_in_parts(rt: HostRuntime) {
     let alloc = rt.alloc();
     let mut rng = Pcg32::new(1, 1);
-    for kind in 0..4usize {
-        let ((is_post, _, text), (from, turns)) = (MESSAGES[kind], CHANGES[kind]);
-        for _turn in 0..turns {
-            let mut changed = Vec::from_slice(alloc, text).expect(&rt, "memory");
-            change(&rt, &mut rng, &mut changed, from);
-            let lack = lack_in_parts(&rt, alloc, &changed, is_post);
-            let is_memory = matches!(lack, Some((_, HttpFault::OutOfMemory | HttpFault::Device)));
-            assert_equal(&rt, is_memory, false);
-        }
+    for turn in 0..20_000usize {
+        let ((is_post, _, text), from) = (MESSAGES[turn % 4], CHANGES[turn % 4]);
+        let mut changed = Vec::from_slice(alloc, text).expect(&rt, "memory");
+        change(&rt, &mut rng, &mut changed, from);
+        let lack = lack_in_parts(&rt, alloc, &changed, is_post);
+        let is_memory = matches!(lack, Some((_, HttpFault::OutOfMemory | HttpFault::Device)));
+        assert_equal(&rt, is_memory, false);
     }
 }

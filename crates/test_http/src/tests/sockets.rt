@@ -37,13 +37,14 @@ fn a_connection_that_was_asked_carries_a_request_and_waits_for_the_reply(rt: Hos
         assert!(rt; false);
         return;
     };
+    assert_equal(&rt, link.renew(), true);
+    assert_equal(&rt, other.write(b"x").ok(), Some(1));
+    assert_equal(&rt, link.renew(), false);
+    assert_equal(&rt, link.read(&mut [0; 8]).ok(), Some(1));
     for _exchange in 0..2 {
         assert_equal(&rt, link.renew(), true);
         assert_exchange(&rt, &mut link, &mut other);
     }
-    assert_equal(&rt, other.write(b"x").ok(), Some(1));
-    assert_equal(&rt, link.renew(), false);
-    assert_equal(&rt, link.read(&mut [0; 8]).ok(), Some(1));
     assert_equal(&rt, link.renew(), true);
     let began = Instant::now(&rt).expect(&rt, "a moment");
     assert_equal(&rt, link.read(&mut [0; 8]).is_err(), true);

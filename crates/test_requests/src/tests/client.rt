@@ -147,7 +147,7 @@ fn send_all<T: Transport + Drop>(
 fn ask(rt: &HostRuntime, asked: &Asked<'_>) -> Result<Came, Fail> {
     let alloc = rt.alloc();
     let resource = Arc::new(alloc, Resource::new(alloc, Vec::new(alloc)))?;
-    let sampler = TraceIdRatio::of(asked.sampled, 1).expect(rt, "a ratio");
+    let sampler = TraceIdRatio::of(asked.sampled, 1)?;
     let provider = Provider::new(sampler, resource, SpanLimits::default());
     let log = Log {
         bytes: RefCell::new(Vec::new(alloc)),

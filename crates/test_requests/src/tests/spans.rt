@@ -22,7 +22,7 @@ fn push_span(lines: &mut String, span: &SpanData) -> Result<(), Fail> {
         write!(lines, " at {}: {}", event.timestamp, event.name)?;
     }
     for link in span.links() {
-        write!(lines, " to {}", link.context.span)?;
+        write!(lines, " to {}", link.span_context.span)?;
     }
     writeln!(lines)?;
     Ok(())
