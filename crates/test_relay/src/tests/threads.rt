@@ -15,7 +15,7 @@ use std::sync::{Mutex, Wait};
 use std::thread::{self, Threads};
 
 /// How many bodies there are.
-const MANY: u64 = 10_000;
+const MANY: u64 = 2_000;
 
 /// Keeps them all.
 fn post_all<K: BodyKeeper>(rt: &impl Abort, alloc: Global, keeper: &mut K) {

@@ -23,7 +23,7 @@ const ROOM: usize = 1 << 24;
 const HEAD: &[u8] = b"POST /v1/traces HTTP/1.1\r\nhost: localhost:4318\r\n\
 content-type: application/x-protobuf\r\ncontent-length: 12\r\n\r\n";
 
-/// What is answered to a post that is taken.
+/// What is answered to a post that is taken, 76 bytes.
 const TAKEN: &[u8] = b"HTTP/1.1 200 OK\r\ncontent-type: application/x-protobuf\r\n\
 content-length: 0\r\n\r\n";
 
@@ -58,6 +58,18 @@ fn read<J: Naming, R: Wait>(
     Ok(())
 }
 
+/// How many answers these bytes are, each of which says that a post is taken, or `None`.
+fn count_taken(output: &[u8]) -> Option<usize> {
+    let mut count: usize = 0;
+    for answer in output.chunks(76) {
+        if answer != TAKEN {
+            return None;
+        }
+        count = count.saturating_add(1);
+    }
+    Some(count)
+}
+
 /// How many posts of a client are answered as taken, or `None` where anything else is answered.
 fn answered<J: Naming, R: Wait>(
     alloc: Global,
@@ -71,9 +83,7 @@ fn answered<J: Naming, R: Wait>(
             connection.write_to(&mut output)?;
         }
     }
-    let count = output.len() / TAKEN.len();
-    let is_taken = output.chunks(TAKEN.len()).all(|answer| answer == TAKEN);
-    Ok(if is_taken { Some(count) } else { None })
+    Ok(count_taken(&output))
 }
 
 /// A round in which two clients send these bytes: how many posts of each are taken, and how often
