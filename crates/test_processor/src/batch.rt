@@ -1,15 +1,18 @@
-//! Tests of `batch_processor` over its public calls: how ends are answered, what its totals and its
-//! ledger say at last, its clocks, each refusal of memory, and two processors side by side. What
-//! its worker does is in `test_batch`.
+//! Tests of `batch_processor`: what is done on one thread, written down answer by answer, each
+//! refusal of memory, and threads; and two processors side by side.
 
 #[cfg(test)]
-mod clocks;
+mod cases;
 #[cfg(test)]
-mod ends;
-#[cfg(test)]
-mod fixture;
-#[cfg(test)]
-mod memory;
+mod collector;
 mod neighbors;
+#[cfg(test)]
+mod player;
+#[cfg(test)]
+mod refusals;
+#[cfg(test)]
+mod tasks;
+#[cfg(test)]
+mod threads;
 
-pub use neighbors::{close_out, close_two, make};
+pub use neighbors::close_two;

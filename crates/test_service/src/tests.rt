@@ -2,15 +2,9 @@
 
 mod environment;
 mod equal;
-mod fixture;
-mod names;
+mod requests;
 mod serving;
-mod side_by_side;
 mod starting;
-mod stopping;
 mod thread;
 mod thread_paths;
 mod thread_refusals;
-mod thread_spans;
-mod thread_values;
-mod tracing;

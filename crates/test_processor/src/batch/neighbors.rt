@@ -90,18 +90,3 @@ pub fn close_two<J: Naming, K: Naming, R: Wait + Copy, A: Allocator + Copy>(
     let neighbors = is_whole(other, others, sender);
     Ok(own && neighbors)
 }
-
-#[cfg(test)]
-mod tests {
-    use super::close_two;
-    use batch_processor::BatchBlank;
-    use std::alloc::Global;
-    use std::marker::Brand;
-
-    #[test]
-    fn each_processor_takes_back_its_own_passes(rt: HostRuntime) {
-        let (first, second) = (BatchBlank::new(), BatchBlank::new());
-        let closed = close_two::<Brand, Brand, HostRuntime, Global>(rt.alloc(), rt, first, second);
-        assert_eq!(rt; closed, Ok(true));
-    }
-}

@@ -9,98 +9,18 @@ use std::io::{self, Write};
 use std::process::Abort;
 use std::str;
 use std::sync::{Arc, Mutex, Wait};
-use thread_tracer::{Refused, ThreadTrace};
-use traced_service::{ServiceSetup, ThreadDone, TracedDone, TracedWork, serve_from_environment};
+use thread_tracer::ThreadTrace;
+use traced_service::{ServiceSetup, TracedDone, TracedWork, serve_from_environment};
 
-/// What was refused where nothing was.
-const NONE: Refused = Refused {
-    not_started: 0,
-    left_out: 0,
-};
-
-/// Each thread makes a span, and gives its number.
-struct Numbered;
-
-impl TracedWork for Numbered {
-    type Output = usize;
-
-    fn work<T: ThreadTrace>(&self, thread: usize, trace: &mut T) -> usize {
-        let span = trace.start("work", Kind::Internal);
-        trace.end(span);
-        thread
-    }
-}
-
-/// The lines of what a service came to.
-fn counts_of<E: ReportsFailure, L: Write + Drop>(
-    rt: &impl Abort,
-    alloc: Global,
-    done: &TracedDone<usize, E, L>,
-) -> Vec<u8> {
-    let mut lines = Vec::new(alloc);
-    done.write_counts(&mut lines).expect(rt, "memory");
-    lines
-}
-
-/// Asserts that each thread came to its own number, in their order.
-fn assert_numbers(rt: &impl Abort, threads: &[ThreadDone<usize>]) {
-    for (place, thread) in threads.iter().enumerate() {
-        assert_equal(rt, (thread.output, thread.refused), (place, NONE));
-    }
-}
-
-#[test]
-fn a_service_that_is_off_does_its_work_and_hands_nothing_over(rt: HostRuntime) {
-    let alloc = rt.alloc();
-    let pairs = [
-        ("OTEL_SDK_DISABLED", "true"),
-        ("OTEL_TRACES_SAMPLER", "xray"),
-    ];
-    let settings = settings_of(alloc, &pairs).expect(&rt, "memory");
-    let setup = ServiceSetup::new(alloc, "shop", settings).expect(&rt, "memory");
-    assert_equal(&rt, (setup.is_off(), setup.faults().len()), (true, 1));
-    let done = setup
-        .serve(rt, rt.stderr(), 3, &Numbered)
-        .expect(&rt, "a service");
-    assert_numbers(&rt, &done.threads);
-    assert_equal(&rt, (done.threads.len(), done.refused), (3, NONE));
-    assert_equal(&rt, (done.totals().handed, done.is_delivered()), (0, true));
-    let lines = counts_of(&rt, alloc, &done);
-    assert_equal(&rt, lines.starts_with(b"spans handed 0\n"), true);
-}
-
-/// Each thread gives its number, and makes no span.
-struct Idle;
-
-impl TracedWork for Idle {
-    type Output = usize;
-
-    fn work<T: ThreadTrace>(&self, thread: usize, _trace: &mut T) -> usize {
-        thread
-    }
-}
-
-#[test]
-fn a_service_from_the_environment_does_its_work(rt: HostRuntime) {
-    let alloc = rt.alloc();
-    let done = serve_from_environment(rt, rt.stderr(), "shop", 2, &Idle).expect(&rt, "a service");
-    assert_numbers(&rt, &done.threads);
-    assert_equal(&rt, (done.threads.len(), done.totals().handed), (2, 0));
-    let lines = counts_of(&rt, alloc, &done);
-    assert_equal(&rt, lines.starts_with(b"spans handed 0\n"), true);
-}
-
-/// How many spans each thread of a flood ends.
-const FLOOD: u64 = 500;
-
-/// Each thread ends spans, as fast as it can.
-struct Flood;
+/// Each thread ends so many spans, as fast as it can, and gives its number.
+#[derive(Clone, Copy)]
+struct Flood(u64);
 
 impl TracedWork for Flood {
     type Output = usize;
 
     fn work<T: ThreadTrace>(&self, thread: usize, trace: &mut T) -> usize {
-        for _ in 0..FLOOD {
+        for _ in 0..self.0 {
             let span = trace.start("work", Kind::Internal);
             trace.end(span);
         }
@@ -164,6 +84,29 @@ fn assert_each_once(rt: &impl Abort, tickets: &mut Vec<u64>, end: u64) {
     assert_equal(rt, next, end);
 }
 
+/// Asserts what a service came to whose spans are all named: each thread's number, in their order,
+/// how many spans were dropped or lost, and how its counts begin.
+fn assert_named<E: ReportsFailure, L: Write + Drop>(
+    rt: &impl Abort,
+    alloc: Global,
+    done: &TracedDone<usize, E, L>,
+    spans: u64,
+) {
+    for (place, thread) in done.threads.iter().enumerate() {
+        assert_equal(rt, thread.output, place);
+    }
+    let totals = done.totals();
+    let named = totals.lost.saturating_add(totals.dropped.queue_full);
+    assert_equal(
+        rt,
+        (named, totals.left, done.refused.not_started),
+        (spans, 0, 0),
+    );
+    let mut lines = Vec::new(alloc);
+    done.write_counts(&mut lines).expect(rt, "memory");
+    assert_equal(rt, lines.starts_with(b"spans handed "), true);
+}
+
 /// No span is delivered: each is dropped or lost.
 #[test]
 fn of_eight_threads_each_span_that_is_not_delivered_is_named_once(rt: HostRuntime) {
@@ -174,12 +117,16 @@ fn of_eight_threads_each_span_that_is_not_delivered_is_named_once(rt: HostRuntim
         tickets: Arc::try_clone(&tickets).expect(&rt, "memory"),
     };
     let setup = undelivered(&rt, alloc);
-    let done = setup.serve(rt, log, 8, &Flood).expect(&rt, "a service");
-    let totals = done.totals();
-    let named = totals.lost.saturating_add(totals.dropped.queue_full);
-    assert_equal(&rt, (named, totals.left), (8 * FLOOD, 0));
+    let done = setup
+        .serve(rt, log, 8, &Flood(500))
+        .expect(&rt, "a service");
+    assert_named(&rt, alloc, &done, 4000);
     assert_equal(&rt, done.served.sink.unwritten(&rt), 0);
-    let lines = counts_of(&rt, alloc, &done);
-    assert_equal(&rt, lines.starts_with(b"spans handed "), true);
-    assert_each_once(&rt, &mut *tickets.lock(&rt), 8 * FLOOD);
+    assert_each_once(&rt, &mut *tickets.lock(&rt), 4000);
+}
+
+#[test]
+fn a_service_from_the_environment_does_its_work(rt: HostRuntime) {
+    let done = serve_from_environment(rt, rt.stderr(), "shop", 2, &Flood(0));
+    assert_named(&rt, rt.alloc(), &done.expect(&rt, "a service"), 0);
 }

@@ -1,8 +1,7 @@
 //! What the tests of a thread's spans have in common.
-use otlp_ids::SpanId;
 use otlp_sampler::AlwaysOn;
 use otlp_span::{Resource, Scope, SpanData, SpanLimits};
-use std::alloc::{Allocator, Global};
+use std::alloc::Allocator;
 use std::cell::Cell;
 use std::process::Abort;
 use std::sync::Arc;
@@ -66,20 +65,6 @@ where
     case.look(rt, &pass, refused)
 }
 
-/// The words from 1 to this one. A root takes two for its trace, and each span takes one.
-pub(crate) fn count(rt: &impl Abort, alloc: Global, last: u64) -> Vec<u64> {
-    let mut words = Vec::new(alloc);
-    for word in 1..=last {
-        words.push(word).expect(rt, "memory");
-    }
-    words
-}
-
-/// The identifier that is drawn from this word.
-pub(crate) fn id_of(word: u64) -> SpanId {
-    SpanId(word.to_be_bytes())
-}
-
 /// The span that ended at this place.
 pub(crate) fn span_at<'a, A: Allocator>(
     rt: &impl Abort,
@@ -87,14 +72,4 @@ pub(crate) fn span_at<'a, A: Allocator>(
     place: usize,
 ) -> &'a SpanData<A> {
     pass.spans().get(place).expect(rt, "a span")
-}
-
-/// The identifier of the span that ended at this place, and that of its parent, if it has one.
-pub(crate) fn ids_at<A: Allocator>(
-    rt: &impl Abort,
-    pass: &BodyPass<A>,
-    place: usize,
-) -> (SpanId, Option<SpanId>) {
-    let span = span_at(rt, pass, place);
-    (span.context().span, span.parent_span_id())
 }

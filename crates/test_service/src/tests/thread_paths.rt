@@ -1,12 +1,11 @@
 //! Functions with several paths, on each of which their span ends: the edits of `wont-compile` let
 //! it go on one of them. And spans in a field, in an `Option` and in a list.
 use crate::tests::equal::assert_equal;
-use crate::tests::thread::{Case, Thread, count, run};
+use crate::tests::thread::{Case, Thread, run, span_at};
 use otlp_span::Kind;
 use std::alloc::Global;
 use std::num::ParseIntError;
 use std::process::Abort;
-use std::rt::HostRuntime;
 use thread_tracer::{Refused, ThreadSpan, ThreadTrace};
 use trace_api::BodyPass;
 
@@ -137,7 +136,19 @@ fn in_shapes(alloc: Global, trace: &mut impl ThreadTrace) {
     end_all(trace, all);
 }
 
-/// All of these.
+/// Starts a span, and so many more, each in the one before, and ends them all.
+fn nest(trace: &mut impl ThreadTrace, more: usize) {
+    let span = trace.start("nested", Kind::Internal);
+    if more > 0 {
+        nest(trace, more - 1);
+    }
+    trace.end(span);
+}
+
+/// How many spans are nested.
+const DEPTH: usize = 1_000;
+
+/// All of these, after nested ones.
 #[derive(Drop)]
 struct Paths {
     alloc: Global,
@@ -147,20 +158,38 @@ impl Case<Global> for Paths {
     type Found = usize;
 
     fn work<R: Abort>(&self, rt: &R, trace: &mut Thread<'_, Global>) {
+        nest(trace, DEPTH - 1);
         in_functions(rt, trace);
         in_shapes(self.alloc, trace);
         assert_equal(rt, trace.current().is_none(), true);
     }
 
-    fn look<R: Abort>(&self, _rt: &R, pass: &BodyPass, _refused: Refused) -> usize {
+    /// Each nested span is a child of the one that ended after it.
+    fn look<R: Abort>(&self, rt: &R, pass: &BodyPass, refused: Refused) -> usize {
+        for place in 0..DEPTH - 1 {
+            let (span, parent) = (span_at(rt, pass, place), span_at(rt, pass, place + 1));
+            assert_equal(rt, span.parent_span_id(), Some(parent.context().span));
+        }
+        assert_equal(rt, (refused.not_started, refused.left_out), (0, 0));
         pass.spans().len()
     }
 }
 
+/// A root takes two words for its trace, and each span takes one.
 #[test]
-fn a_span_ends_on_each_path(rt: HostRuntime) {
+fn a_span_ends_on_each_path_and_in_depth(rt: HostRuntime) {
     let alloc = rt.alloc();
-    let words = count(&rt, alloc, 64);
-    let spans = run(&rt, alloc, alloc, words.as_slice(), 16, &Paths { alloc });
-    assert_equal(&rt, spans, 15);
+    let mut words = Vec::new(alloc);
+    for word in 1..2_000 {
+        words.push(word).expect(&rt, "memory");
+    }
+    let spans = run(
+        &rt,
+        alloc,
+        alloc,
+        words.as_slice(),
+        DEPTH + 15,
+        &Paths { alloc },
+    );
+    assert_equal(&rt, spans, DEPTH + 15);
 }

@@ -1,11 +1,9 @@
 //! Spans of a thread to which memory or randomness is refused.
 use crate::tests::equal::assert_equal;
-use crate::tests::thread::{Case, Thread, id_of, ids_at, run};
-use otlp_ids::{SpanContext, SpanId, TraceFlags, TraceId};
+use crate::tests::thread::{Case, Thread, run};
 use otlp_span::{Kind, SpanData, Status};
 use std::alloc::Allocator;
 use std::process::Abort;
-use std::rt::HostRuntime;
 use test_support::FailingAllocator;
 use thread_tracer::Refused;
 use trace_api::{BodyPass, KeyValue};
@@ -103,93 +101,4 @@ fn of_three_spans_each_ends_or_is_counted_whatever_memory_is_refused(rt: HostRun
         calls = calls.saturating_add(came.left_out);
     }
     assert_equal(&rt, (spans >= 3, calls >= 7), (true, true));
-}
-
-/// The identifier of a span elsewhere.
-const PARENT: SpanId = SpanId([25, 26, 27, 28, 29, 30, 31, 32]);
-
-/// A request from elsewhere that finds no randomness for its span, and a span in it that does.
-#[derive(Drop)]
-struct Caller<A: Allocator> {
-    context: SpanContext<A>,
-}
-
-impl<A: Allocator + Copy> Case<A> for Caller<A> {
-    type Found = ();
-
-    fn work<R: Abort>(&self, rt: &R, trace: &mut Thread<'_, A>) {
-        let request = trace.with_remote(&self.context, "GET /cart", Kind::Server);
-        assert_equal(
-            rt,
-            (request.is_started(), request.is_recording()),
-            (false, false),
-        );
-        assert_equal(rt, request.context().span, PARENT);
-        assert_equal(rt, request.context().state.as_str(), "k=v");
-        assert_equal(rt, trace.current().is_none(), true);
-        let query = trace.child(&request, "SELECT", Kind::Client);
-        trace.end(request);
-        trace.end(query);
-    }
-
-    fn look<R: Abort>(&self, rt: &R, pass: &BodyPass<A>, refused: Refused) {
-        assert_equal(rt, refused.not_started, 1);
-        assert_equal(rt, ids_at(rt, pass, 0), (id_of(5), Some(PARENT)));
-    }
-}
-
-#[test]
-fn a_span_without_randomness_carries_on_the_context_of_its_parent(rt: HostRuntime) {
-    let alloc = rt.alloc();
-    let context = SpanContext {
-        trace: TraceId([7; 16]),
-        span: PARENT,
-        flags: TraceFlags(1),
-        remote: true,
-        state: String::from_str(alloc, "k=v").expect(&rt, "memory"),
-    };
-    run(
-        &rt,
-        alloc,
-        alloc,
-        &[0, 0, 0, 0, 0, 0, 0, 0, 5],
-        1,
-        &Caller { context },
-    );
-}
-
-/// A root that finds no randomness, and a span in it.
-struct Root;
-
-impl<A: Allocator + Copy> Case<A> for Root {
-    type Found = (usize, Refused);
-
-    fn work<R: Abort>(&self, rt: &R, trace: &mut Thread<'_, A>) {
-        let mut request = trace.root("GET /cart", Kind::Server);
-        request.set("http.route", "/cart/{id}");
-        assert_equal(
-            rt,
-            (request.context().is_valid(), request.left_out()),
-            (false, 0),
-        );
-        let query = trace.child(&request, "SELECT", Kind::Client);
-        assert_equal(rt, query.context().is_valid(), false);
-        trace.end(query);
-        trace.end(request);
-    }
-
-    fn look<R: Abort>(&self, _rt: &R, pass: &BodyPass<A>, refused: Refused) -> (usize, Refused) {
-        (pass.spans().len(), refused)
-    }
-}
-
-#[test]
-fn a_root_without_randomness_has_an_invalid_context_and_its_children_are_roots(rt: HostRuntime) {
-    let alloc = rt.alloc();
-    let refused = Refused {
-        not_started: 2,
-        left_out: 0,
-    };
-    let found = run(&rt, alloc, alloc, &[], 1, &Root);
-    assert_equal(&rt, found, (0, refused));
 }

@@ -1,4 +1,0 @@
-use Rattle.test_service.proofs.tests.thread_spans.+nest.Given as goal
-
-abbrev pub decreases-nest : goal.decreases-nest
-decreases-nest g l = l.more
