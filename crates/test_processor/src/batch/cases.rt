@@ -1,6 +1,7 @@
 //! What is done with a batch processor on one thread, and what is answered.
 use crate::batch::player::Step::{
-    Count, Drain, End, EndLonger, Flush, Idle, Leave, Pop, PopLost, Shutdown, Word, Work, WorkOn,
+    Count, Drain, End, EndLonger, Flush, Idle, Leave, Pop, PopLost, Shutdown, Sum, Word, Work,
+    WorkOn,
 };
 use crate::batch::player::{Case, Step, place_of};
 use batch_desk::DeskConfig;

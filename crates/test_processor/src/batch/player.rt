@@ -1,5 +1,5 @@
 //! Does what a case says with a batch processor, on one thread, and writes down what is answered.
-ghost use Rattle.std.specs.Prelude.{◌≡◌, ℕ};
+ghost use Rattle.std.specs.Prelude.{◌≡◌, ◌^◌};
 ghost use Rattle.batch_processor.specs.Working.{IsPrepared};
 
 use crate::batch::collector::{Collector, Sent};
