@@ -62,6 +62,7 @@ pub record Holds {A : Type 0} (d : Draft A) (s : Script) : Type 0 where
 
 -- ---- how a draft goes on: `proofs/Together` proves that it becomes the script of all lines
 
+-- A script without a line (profile).
 abbrev pub no_script : Script
 no_script = record {
   words = [];
