@@ -1,65 +1,140 @@
-//! Threads end spans on passes of a service whose exporter lets its batches go; prints what became
-//! of the spans, how many bytes bodies of 512 spans have, over 1, 8 and 64 scopes, without
-//! and with attributes, and the memory that requests take.
+//! A benchmark: how many spans of a service are delivered in a second, and what spans, their bodies
+//! and exports take. It is called as
 //!
-//! With the argument `measure` it prints how long spans take instead, in nanoseconds: the time of a
-//! thread for each span, and of ends the middle one, the one that a thousandth took longer than,
-//! and the longest; beside them a desk under a plain mutex, how long its lock is held round what
-//! is done with whole batches, what spans take that find a queue full, the processor time of an
-//! idle worker, a ring of items beside a deque, the calls that set an attribute, the field of a
-//! context, and a request with a span beside one without. It prints too how long an export of a
-//! small body takes over loopback, over a new connection each, and over a kept one.
+//!     trace_bench plain|setup THREADS ATTRIBUTES MILLISECONDS IS_TIMED
 //!
-//! With a number of rounds as its argument it prints of the bodies how long a span takes, in
-//! nanoseconds: to be grouped, to be encoded, as a part of a body that is copied, and to be read;
-//! and the same of 5,120 and 51,200 spans, and of empty resources.
+//! is a service whose threads end spans as fast as they can, and that posts them to the collector
+//! that the environment names. `setup` is a `ServiceSetup`, whose log is the standard error; `plain`
+//! a batch service whose threads share a tracer and name nothing themselves, and each of whose
+//! batches goes over a new connection. It prints how many spans were delivered in a second, from the
+//! start of the service until it has stopped; what a span took its thread; what became of all; and,
+//! where IS_TIMED is 1, of their ends the middle one, the one that a thousandth took longer than,
+//! and the longest.
+//!
+//!     trace_bench exports ROUNDS
+//!
+//! posts so many bodies of 1,000 bytes to that collector, over a new connection each, and over a
+//! kept one.
+//!
+//!     trace_bench spans ROUNDS
+//!
+//! prints how long a span takes that is started, ended and kept, and the field of its context, as it
+//! is written and read.
+//!
+//!     trace_bench bodies ROUNDS
+//!
+//! prints how long the spans of a batch take, over 1, 8 and 64 scopes: to be grouped, to be encoded,
+//! as a part of a body that is copied, and to be read; the same of 5,120 and 51,200 spans; and how
+//! long empty resources take to be read.
+//!
+//! Each time is that of the middle one of the rounds. Without arguments there is no round, and it
+//! prints only how many spans are kept, and how many bytes their bodies have.
 #![tactic(auto)]
 
-mod calls;
-mod collector;
-mod counting;
-mod encoding;
+mod bodies;
+mod exports;
 mod figures;
 mod load;
-mod plain;
-mod posts;
-mod requests;
-mod rings;
-mod tables;
-mod threads;
+mod services;
+mod spans;
 
 use anyhow::Result;
+use bodies::{print_bodies, print_growth};
+use exports::print_exports;
+use load::Load;
+use services::{print_came, run_plain, run_setup};
+use spans::print_spans;
+use std::alloc::Global;
 use std::env;
 use std::process::ExitCode;
-use tables::Tables;
+use std::time::Instant;
 
-/// Prints what bodies come to, measured in so many rounds where there are some.
-fn print_encoding(rt: &HostRuntime, rounds: u32) -> Result<()> {
-    let mut output = rt.stdout();
-    encoding::print_batches(rt, &mut output, rounds)?;
-    encoding::print_memory(rt, &mut output)?;
-    if rounds > 0 {
-        encoding::print_growth(rt, &mut output, rounds)?;
+/// What is measured.
+#[derive(Clone, Copy)]
+enum Measure {
+    /// A batch service of so many plain threads.
+    Plain(usize, Load),
+    /// A `ServiceSetup` of so many threads.
+    Setup(usize, Load),
+    /// Exports, in so many rounds.
+    Exports(u32),
+    /// Spans that are kept.
+    Spans(u32),
+    /// Bodies of spans.
+    Bodies(u32),
+    /// How many spans are kept, and how long their bodies are.
+    Sizes,
+}
+
+/// The number at this place of a command line.
+fn number(words: &[String], place: usize) -> Option<u64> {
+    words.get(place)?.as_str().parse::<u64>().ok()
+}
+
+/// How many threads a command line asks for, and what each does.
+fn load_of(alloc: Global, words: &[String]) -> Option<(usize, Load)> {
+    let threads = usize::try_from(number(words, 2)?).ok()?;
+    let load = Load {
+        alloc,
+        attributes: usize::try_from(number(words, 3)?).ok()?,
+        nanos: number(words, 4)?.saturating_mul(1_000_000),
+        is_timed: number(words, 5)? > 0,
+    };
+    Some((threads, load))
+}
+
+/// What a command line asks for, the first word of which is the program's name.
+fn measure_of(alloc: Global, words: &[String]) -> Option<Measure> {
+    let Some(word) = words.get(1) else {
+        return Some(Measure::Sizes);
+    };
+    if let Some((threads, load)) = load_of(alloc, words) {
+        return match word.as_str() {
+            "plain" => Some(Measure::Plain(threads, load)),
+            "setup" => Some(Measure::Setup(threads, load)),
+            _ => None,
+        };
     }
-    Ok(())
+    let rounds = u32::try_from(number(words, 2)?).ok()?;
+    match word.as_str() {
+        "exports" => Some(Measure::Exports(rounds)),
+        "spans" => Some(Measure::Spans(rounds)),
+        "bodies" => Some(Measure::Bodies(rounds)),
+        _ => None,
+    }
+}
+
+/// What the process's command line asks for.
+fn read_measure(rt: HostRuntime) -> Result<Option<Measure>> {
+    let mut words = Vec::new(rt.alloc());
+    for word in env::args(&rt)? {
+        words.push(word)?;
+    }
+    Ok(measure_of(rt.alloc(), &words))
 }
 
 fn main(rt: HostRuntime) -> Result<ExitCode> {
-    let mut tables = Tables {
-        rt,
-        alloc: rt.alloc(),
-        output: rt.stdout(),
-    };
-    match env::args(&rt)?.nth(1) {
-        None => {
-            print_encoding(&rt, 0)?;
-            tables.print_counts()?
+    let start = Instant::now(&rt)?;
+    match read_measure(rt)? {
+        Some(Measure::Plain(threads, load)) => {
+            let (ran, totals) = run_plain(rt, threads, load)?;
+            print_came(rt, ran, totals, start)?
         }
-        Some(word) if word.as_str() == "measure" => tables.print_times()?,
-        Some(word) => match word.as_str().parse::<u32>() {
-            Ok(rounds) => print_encoding(&rt, rounds)?,
-            Err(_) => return Ok(ExitCode::FAILURE),
-        },
+        Some(Measure::Setup(threads, load)) => {
+            let (ran, totals) = run_setup(rt, rt.stderr(), threads, load)?;
+            print_came(rt, ran, totals, start)?
+        }
+        Some(Measure::Exports(rounds)) => print_exports(rt, rounds)?,
+        Some(Measure::Spans(rounds)) => print_spans(rt, rounds)?,
+        Some(Measure::Bodies(rounds)) => {
+            print_bodies(rt, rounds)?;
+            print_growth(rt, rounds)?
+        }
+        Some(Measure::Sizes) => {
+            print_bodies(rt, 0)?;
+            print_spans(rt, 0)?
+        }
+        None => return Ok(ExitCode::FAILURE),
     }
     Ok(ExitCode::SUCCESS)
 }
