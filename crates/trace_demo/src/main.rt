@@ -22,6 +22,6 @@ fn main(rt: HostRuntime) -> io::Result<ExitCode> {
         words.push(word)?;
     }
     let (mut output, mut faults) = (rt.stdout(), rt.stderr());
-    let status = trace_demo(rt, rt.alloc(), words, &mut output, &mut faults);
+    let status = trace_demo(rt, rt.alloc(), &words, &mut output, &mut faults);
     Ok(ExitCode::from(status))
 }

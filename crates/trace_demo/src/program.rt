@@ -33,7 +33,7 @@ use std::time;
 pub fn trace_demo<R, W, F>(
     rt: R,
     alloc: Global,
-    words: Vec<String>,
+    words: &[String],
     output: &mut W,
     faults: &mut F,
 ) -> u8
@@ -43,12 +43,12 @@ where
     W: Write,
     F: Write,
     ensures status { result ≤ 3 }
-    ensures asked { result ≡ 0 → AskForRun words.items ⊎ AskForText command words.items }
-    ensures mistake { result ≡ 2 → AreMistaken words.items }
+    ensures asked { result ≡ 0 → AskForRun words.now ⊎ AskForText command words.now }
+    ensures mistake { result ≡ 2 → AreMistaken words.now }
     ensures quiet { result ≡ 2 → Keeps (W.contents output.old) (W.contents output.new) }
     ensures untold { result ≡ 0 → Keeps (F.contents faults.old) (F.contents faults.new) }
 {
-    match DemoArgs::read(words) {
+    match DemoArgs::read(alloc, words) {
         Ok(args) => demo(rt, alloc, output, faults, &args),
         Err(fault) => fault.tell(output, faults),
     }

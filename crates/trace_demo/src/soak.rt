@@ -12,17 +12,16 @@ mod findings;
 mod losses;
 mod memory;
 mod names;
-mod told;
 mod verdict;
 
 use crate::args::DemoArgs;
 use crate::ends::{EndedSpans, Ends};
-use crate::soak::balance::Found;
 use crate::soak::book::Book;
 use crate::soak::exporter::RandomLinks;
-use crate::soak::findings::{Findings, all_named};
+use crate::soak::findings::Findings;
 use crate::soak::memory::resident;
-use crate::soak::names::{Names, NotedNames, await_names};
+use crate::soak::names::{NotedNames, await_names};
+use crate::sums::all_drops;
 use batch_desk::DeskConfig;
 use batch_processor::{BatchBlank, BatchConfig, Naming, Pass, SystemClock};
 use batch_service::{Room, Service, Started, work_on_all};
@@ -173,7 +172,8 @@ where
         };
         let ended = end_on_all(&rt, alloc, passes, &ends)?;
         service.flush().ok()?;
-        let all = all_named(service.totals());
+        let totals = service.totals();
+        let all = all_drops(totals).saturating_add(totals.lost);
         await_names(&rt, book, all.saturating_sub(named));
         balance_round(&rt, alloc, &ended.numbers, book, findings)?;
         findings.add_size(resident(&rt, alloc)?)?;
@@ -214,23 +214,9 @@ fn balance_round<R: Wait>(
     book: &Mutex<Book>,
     findings: &mut Findings,
 ) -> Option<()> {
-    let mut book = book.lock(rt).take();
+    let book = book.lock(rt).take();
     if book.is_short {
         return None;
     }
-    let Names { dropped, lost } = book.take_names();
-    let told = book.told().ok()?;
-    let found = Found {
-        delivered: told.delivered,
-        partial: told.partial,
-        lost,
-        dropped,
-    };
-    findings.add_losses(
-        alloc,
-        found.lost.as_slice(),
-        told.lost.as_slice(),
-        told.lost_kept,
-    )?;
-    findings.add(alloc, ended, &found, &book)
+    findings.add(alloc, ended, &book)
 }

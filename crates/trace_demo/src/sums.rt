@@ -23,17 +23,22 @@ pub(crate) struct Sums {
     pub(crate) collected: u64,
 }
 
+/// How many spans a processor counted as dropped, for whatever reason.
+pub(crate) fn all_drops(totals: Totals) -> u64 {
+    let drops = totals.dropped;
+    let by_worker = drops.encode_memory.saturating_add(drops.too_large);
+    let by_worker = by_worker.saturating_add(drops.abandoned);
+    drops.queue_full.saturating_add(by_worker)
+}
+
 impl Sums {
     /// From what the processor counted, and what the collector has.
     pub(crate) fn new(ended: u64, totals: Totals, collected: u64) -> Sums {
-        let drops = totals.dropped;
-        let by_worker = drops.encode_memory.saturating_add(drops.too_large);
-        let by_worker = by_worker.saturating_add(drops.abandoned);
         Sums {
             ended,
             handed: totals.handed,
             lost: totals.lost,
-            dropped: drops.queue_full.saturating_add(by_worker),
+            dropped: all_drops(totals),
             left: totals.left,
             collected,
         }

@@ -98,35 +98,25 @@ impl DemoArgs {
     /// `Help` and `Version` where the words ask for them. `Mistake` where a word isn't known, an
     /// option is twice or without its number, a number is none or out of its range, or the batch is
     /// larger than the queue. `OutOfMemory` where memory was refused.
-    pub fn read(words: Vec<String>) -> Result<DemoArgs, ArgFault>
-        ensures taken { IfOk result (λ _. IsTaken command words.items) }
-        ensures values { IfOk result (IsAskedBy words.items) }
+    pub fn read(alloc: Global, words: &[String]) -> Result<DemoArgs, ArgFault>
+        ensures taken { IfOk result (λ _. IsTaken command words.now) }
+        ensures values { IfOk result (IsAskedBy words.now) }
         ensures in_range { IfOk result (λ a. IsInRange a.threads a.spans a.queue a.batch) }
-        ensures refused { IfErr result (IsCause words.items) }
+        ensures refused { IfErr result (IsCause words.now) }
     {
-        read_words(*words.allocator(), words.as_slice())
-    }
-}
-
-/// What these words ask for.
-fn read_words(alloc: Global, words: &[String]) -> Result<DemoArgs, ArgFault>
-    ensures taken { IfOk result (λ _. IsTaken command words.now) }
-    ensures values { IfOk result (IsAskedBy words.now) }
-    ensures in_range { IfOk result (λ a. IsInRange a.threads a.spans a.queue a.batch) }
-    ensures refused { IfErr result (IsCause words.now) }
-{
-    let found = LINE.read(alloc, words)?;
-    let (seed, spans) = (found.numbers[0], found.numbers[2]);
-    let threads = found.numbers[1] as usize;
-    let (queue, batch) = (found.numbers[3] as usize, found.numbers[4] as usize);
-    match DemoArgs::new(seed, threads, spans, queue, batch) {
-        Some(mut args) => {
-            args.soak = found.numbers[5];
-            args.slack = found.numbers[6];
-            args.is_verbose = found.is_set;
-            Ok(args)
+        let found = LINE.read(alloc, words)?;
+        let (seed, spans) = (found.numbers[0], found.numbers[2]);
+        let threads = found.numbers[1] as usize;
+        let (queue, batch) = (found.numbers[3] as usize, found.numbers[4] as usize);
+        match DemoArgs::new(seed, threads, spans, queue, batch) {
+            Some(mut args) => {
+                args.soak = found.numbers[5];
+                args.slack = found.numbers[6];
+                args.is_verbose = found.is_set;
+                Ok(args)
+            }
+            None => Err(large_batch(alloc, &LINE, batch as u64, queue as u64)),
         }
-        None => Err(large_batch(alloc, &LINE, batch as u64, queue as u64)),
     }
 }
 

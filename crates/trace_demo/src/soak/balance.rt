@@ -21,6 +21,16 @@ pub(crate) struct Found {
 }
 
 impl Found {
+    /// Of no span.
+    pub(crate) fn new(alloc: Global) -> Found {
+        Found {
+            delivered: Vec::new(alloc),
+            partial: Vec::new(alloc),
+            lost: Vec::new(alloc),
+            dropped: Vec::new(alloc),
+        }
+    }
+
     /// All of them, one after the other.
     fn all(&self, alloc: Global) -> Result<Vec<u64>, AllocError>
         ensures { IfOk result (λ all. all.items ≡ self.now.delivered.items

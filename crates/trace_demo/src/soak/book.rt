@@ -1,9 +1,10 @@
-//! What both sides of the links noted in a round, and which spans were named.
+//! What both sides of the links note in a round, and which spans are named.
+use crate::soak::ATTEMPTS;
+use crate::soak::balance::Found;
 use crate::soak::course::{COURSES, Course};
 use crate::soak::losses::Loss;
-use crate::soak::names::Names;
-use crate::soak::told::{Told, loss_reason};
 use otlp_read::{Request, Span, read_request};
+use otlp_span::Reason;
 use retry_core::Outcome;
 use std::alloc::{AllocError, Global};
 use std::mem;
@@ -15,21 +16,11 @@ struct Kept {
     spans: Vec<u64>,
 }
 
-/// A batch that was handed to the exporter, as the exporter's side notes it.
-#[derive(Drop)]
-struct Batch {
-    number: u64,
-    spans: Vec<u64>,
-    attempts: u32,
-    is_kept: bool,
-    last: Outcome,
-}
-
 /// What the exporter's side of the link reports of an attempt.
 #[derive(Clone, Copy)]
 pub(crate) struct Attempt<'a> {
-    /// The batch's number.
-    pub(crate) number: u64,
+    /// Which attempt of its batch it is, from 1 on.
+    pub(crate) number: u32,
     /// The body that was to be sent.
     pub(crate) body: &'a [u8],
     /// What became of the attempt.
@@ -40,26 +31,25 @@ pub(crate) struct Attempt<'a> {
     pub(crate) outcome: Outcome,
 }
 
-impl Attempt<'_> {
-    /// Whether the collector keeps the body.
-    pub(crate) fn is_kept(&self) -> bool {
-        self.is_whole && self.course != Course::Refused
-    }
-}
-
 /// What both sides of the links noted in a round, and the names of spans that weren't delivered.
 #[derive(Drop)]
 pub(crate) struct Book {
     alloc: Global,
     kept: Vec<Kept>,
-    batches: Vec<Batch>,
-    names: Names,
+    /// Where spans were found.
+    pub(crate) found: Found,
+    /// The spans that have to be named as lost, each with the reason.
+    pub(crate) to_lose: Vec<Loss>,
+    /// Of how many of these the collector has the body all the same.
+    pub(crate) lost_kept: u64,
     /// How many attempts were of each kind of course.
     pub(crate) courses: [u64; COURSES],
     /// How often a body was kept that had been kept before.
     pub(crate) repeats: u64,
     /// Whether each of those came with the same bytes.
     pub(crate) are_equal: bool,
+    /// Whether each batch was kept whose last reply said that it was taken.
+    pub(crate) are_delivered_kept: bool,
     /// Whether memory was refused to one of the sides, or for a name.
     pub(crate) is_short: bool,
 }
@@ -70,11 +60,13 @@ impl Book {
         Book {
             alloc,
             kept: Vec::new(alloc),
-            batches: Vec::new(alloc),
-            names: Names::new(alloc),
+            found: Found::new(alloc),
+            to_lose: Vec::new(alloc),
+            lost_kept: 0,
             courses: [0; COURSES],
             repeats: 0,
             are_equal: true,
+            are_delivered_kept: true,
             is_short: false,
         }
     }
@@ -86,34 +78,20 @@ impl Book {
         mem::replace(self, empty)
     }
 
-    /// Notes that memory was refused.
-    pub(crate) fn lack(&mut self) {
-        self.is_short = true;
-    }
-
     /// Notes the name of a dropped span, by its number.
     pub(crate) fn name_dropped(&mut self, number: u64) {
-        if self.names.dropped.push(number).is_err() {
-            self.lack();
-        }
+        self.is_short = self.found.dropped.push(number).is_err() || self.is_short;
     }
 
     /// Notes the name of a lost span.
     pub(crate) fn name_lost(&mut self, loss: Loss) {
-        if self.names.lost.push(loss).is_err() {
-            self.lack();
-        }
+        self.is_short = self.found.lost.push(loss).is_err() || self.is_short;
     }
 
     /// Whether so many names are noted, or memory for more was refused.
     pub(crate) fn has_names(&self, wanted: u64) -> bool {
-        self.is_short || self.names.count() >= wanted
-    }
-
-    /// The names that were noted, taken out.
-    pub(crate) fn take_names(&mut self) -> Names {
-        let none = Names::new(self.alloc);
-        mem::replace(&mut self.names, none)
+        let named = (self.found.dropped.len() as u64).saturating_add(self.found.lost.len() as u64);
+        self.is_short || named >= wanted
     }
 
     /// The collector keeps a body that came in this text. Bodies with the same first span are the
@@ -129,73 +107,58 @@ impl Book {
         Ok(())
     }
 
-    /// The exporter's side notes an attempt. Those of a batch come one after the other.
+    /// The exporter's side notes an attempt. Where it is the last one of its batch, the spans of
+    /// that are to be found by what came of it.
     pub(crate) fn note(&mut self, attempt: &Attempt<'_>) -> Result<(), AllocError> {
         if let Some(count) = self.courses.get_mut(attempt.course.place(attempt.is_whole)) {
             *count = count.saturating_add(1);
         }
-        if let Some(batch) = self.batches.last_mut() {
-            if batch.number == attempt.number {
-                batch.attempts = batch.attempts.saturating_add(1);
-                batch.is_kept = batch.is_kept || attempt.is_kept();
-                batch.last = attempt.outcome;
-                return Ok(());
-            }
+        match attempt.outcome {
+            Outcome::Delivered => self.deliver(attempt.body, true),
+            Outcome::Partial(_) => self.deliver(attempt.body, false),
+            Outcome::Refused(status) => self.lose(attempt.body, Reason::Refused(status)),
+            Outcome::Bad => self.lose(attempt.body, Reason::BadReply),
+            _ if attempt.number == ATTEMPTS => self.lose(attempt.body, Reason::GivenUp),
+            _ => Ok(()),
         }
-        self.batches.push(Batch {
-            number: attempt.number,
-            spans: read_numbers(self.alloc, attempt.body)?,
-            attempts: 1,
-            is_kept: attempt.is_kept(),
-            last: attempt.outcome,
-        })?;
+    }
+
+    /// A batch with this body was taken, whole or but for some of its spans: these are those that
+    /// the collector read in the body which it kept.
+    fn deliver(&mut self, body: &[u8], is_whole: bool) -> Result<(), AllocError> {
+        let (spans, is_kept) = self.spans_of(body)?;
+        self.are_delivered_kept = self.are_delivered_kept && is_kept;
+        if !is_kept {
+            return Ok(());
+        }
+        if is_whole {
+            self.found.delivered.extend_from_slice(&spans)
+        } else {
+            self.found.partial.extend_from_slice(&spans)
+        }
+    }
+
+    /// A batch with this body is lost for this reason, whether the collector kept the body or not.
+    fn lose(&mut self, body: &[u8], reason: Reason) -> Result<(), AllocError> {
+        let (spans, is_kept) = self.spans_of(body)?;
+        for number in &spans {
+            let number = *number;
+            self.to_lose.push(Loss { number, reason })?;
+        }
+        if is_kept {
+            self.lost_kept = self.lost_kept.saturating_add(spans.len() as u64);
+        }
         Ok(())
     }
 
-    /// What has to become of the spans of all batches.
-    pub(crate) fn told(&self) -> Result<Told, AllocError> {
-        let mut told = Told::new(self.alloc);
-        for batch in &self.batches {
-            self.tell(batch, &mut told)?;
+    /// The spans of a batch with this body, and whether the collector kept it: those that it read
+    /// then, and else those that were to be sent.
+    fn spans_of(&self, body: &[u8]) -> Result<(Vec<u64>, bool), AllocError> {
+        let sent = read_numbers(self.alloc, body)?;
+        match find(self.kept.as_slice(), sent.first()) {
+            Some(kept) => Ok((Vec::from_slice(self.alloc, kept.spans.as_slice())?, true)),
+            None => Ok((sent, false)),
         }
-        Ok(told)
-    }
-
-    /// Adds the spans of a batch. Where it was taken, they are those that the collector read in the
-    /// body which it kept; else they are lost, whether it kept the body or not.
-    fn tell(&self, batch: &Batch, told: &mut Told) -> Result<(), AllocError> {
-        let Some(spans) = self.spans_of(batch) else {
-            return Ok(());
-        };
-        match batch.last {
-            Outcome::Delivered if batch.is_kept => told.delivered.extend_from_slice(spans),
-            Outcome::Partial(_) if batch.is_kept => told.partial.extend_from_slice(spans),
-            last => match loss_reason(last, batch.attempts) {
-                Some(reason) => told.lose(spans, reason, batch.is_kept),
-                None => Ok(()),
-            },
-        }
-    }
-
-    /// The spans of a batch: those that the collector read, where it kept the body, and else those
-    /// that were to be sent. `None` where what it kept doesn't begin with the span that was sent.
-    fn spans_of<'a>(&'a self, batch: &'a Batch) -> Option<&'a [u64]> {
-        if !batch.is_kept {
-            return Some(batch.spans.as_slice());
-        }
-        let kept = find(self.kept.as_slice(), batch.spans.first())?;
-        Some(kept.spans.as_slice())
-    }
-
-    /// Whether each batch was kept whose last reply said that it was taken.
-    pub(crate) fn are_delivered_kept(&self) -> bool {
-        for batch in &self.batches {
-            let is_taken = matches!(&batch.last, Outcome::Delivered | Outcome::Partial(_));
-            if is_taken && !batch.is_kept {
-                return false;
-            }
-        }
-        true
     }
 }
 

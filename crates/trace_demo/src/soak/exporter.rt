@@ -53,7 +53,7 @@ impl<R: Wait + Drop> RandomLinks<R> {
     }
 
     /// Posts a body over the next link, if there is one, and notes it.
-    fn attempt(&mut self, number: u64, body: &[u8]) -> Result<Outcome, AllocError> {
+    fn attempt(&mut self, number: u32, body: &[u8]) -> Result<Outcome, AllocError> {
         let course = Course::draw(&mut Pcg64::seed_from_u64(self.seed));
         self.seed = self.seed.wrapping_add(1);
         let mut attempt = Attempt {
@@ -74,7 +74,7 @@ impl<R: Wait + Drop> RandomLinks<R> {
         attempt.is_whole = spans.is_some();
         let mut book = self.book.lock(&self.rt);
         if let Some(spans) = spans {
-            if attempt.is_kept() {
+            if course != Course::Refused {
                 book.keep(wire.taken(), spans)?;
             }
         }
@@ -109,11 +109,11 @@ impl<R: Wait + Drop> Exporter for RandomLinks<R> {
         Ok(())
     }
 
-    fn export(&mut self, number: u64, _attempt: u32, body: &[u8]) -> Outcome {
-        match self.attempt(number, body) {
+    fn export(&mut self, _number: u64, attempt: u32, body: &[u8]) -> Outcome {
+        match self.attempt(attempt, body) {
             Ok(outcome) => outcome,
             Err(_) => {
-                self.book.lock(&self.rt).lack();
+                self.book.lock(&self.rt).is_short = true;
                 Outcome::NoReply
             }
         }

@@ -1,12 +1,12 @@
 //! What a soak came to, and how it is reported.
 ghost use Rattle.std.specs.Prelude.{◌≡◌};
 
-use crate::soak::balance::Found;
 use crate::soak::book::Book;
 use crate::soak::course::COURSES;
-use crate::soak::losses::{Loss, are_named};
+use crate::soak::losses::are_named;
 use crate::soak::memory::{WARM_ROUNDS, is_flat};
 use crate::soak::verdict::Verdict;
+use crate::sums::all_drops;
 use batch_desk::Totals;
 use std::alloc::Global;
 use std::io::{self, Eprint, Write};
@@ -30,6 +30,28 @@ pub(crate) struct Counts {
     pub(crate) repeats: u64,
     /// How many attempts were of each kind of course.
     pub(crate) courses: [u64; COURSES],
+}
+
+/// A count with so many more.
+fn more(count: u64, by: usize) -> u64 {
+    count.saturating_add(by as u64)
+}
+
+impl Counts {
+    /// Adds a round in which so many spans ended.
+    fn add(&mut self, ended: usize, book: &Book) {
+        let found = &book.found;
+        self.ended = more(self.ended, ended);
+        self.delivered = more(self.delivered, found.delivered.len());
+        self.partial = more(self.partial, found.partial.len());
+        self.lost = more(self.lost, found.lost.len());
+        self.lost_kept = self.lost_kept.saturating_add(book.lost_kept);
+        self.dropped = more(self.dropped, found.dropped.len());
+        self.repeats = self.repeats.saturating_add(book.repeats);
+        for (count, by) in self.courses.iter_mut().zip(book.courses.iter()) {
+            *count = count.saturating_add(*by);
+        }
+    }
 }
 
 /// What a soak has found so far.
@@ -61,48 +83,18 @@ impl Findings {
         }
     }
 
-    /// Adds a round: the numbers of the spans that ended, where they were found, and what both
-    /// sides of the links noted. `None` where memory was refused.
-    pub(crate) fn add(
-        &mut self,
-        alloc: Global,
-        ended: &[u64],
-        found: &Found,
-        book: &Book,
-    ) -> Option<()> {
+    /// Adds a round: the numbers of the spans that ended, and what both sides of the links noted.
+    /// `None` where memory was refused.
+    pub(crate) fn add(&mut self, alloc: Global, ended: &[u64], book: &Book) -> Option<()> {
+        let found = &book.found;
         let balances = found.balances(alloc, ended).ok()?;
+        let are_named = are_named(alloc, found.lost.as_slice(), book.to_lose.as_slice()).ok()?;
         let verdict = &mut self.verdict;
         verdict.is_balanced = verdict.is_balanced && balances;
+        verdict.are_lost_named = verdict.are_lost_named && are_named;
         verdict.are_equal = verdict.are_equal && book.are_equal;
-        verdict.are_delivered_kept = verdict.are_delivered_kept && book.are_delivered_kept();
-        let counts = &mut self.counts;
-        counts.ended = counts.ended.saturating_add(ended.len() as u64);
-        counts.delivered = counts
-            .delivered
-            .saturating_add(found.delivered.len() as u64);
-        counts.partial = counts.partial.saturating_add(found.partial.len() as u64);
-        counts.dropped = counts.dropped.saturating_add(found.dropped.len() as u64);
-        counts.repeats = counts.repeats.saturating_add(book.repeats);
-        for (count, more) in counts.courses.iter_mut().zip(book.courses.iter()) {
-            *count = count.saturating_add(*more);
-        }
-        Some(())
-    }
-
-    /// Adds the spans that were named as lost in a round, those that had to be, and of how many of
-    /// these the collector has the body. `None` where memory was refused.
-    pub(crate) fn add_losses(
-        &mut self,
-        alloc: Global,
-        named: &[Loss],
-        wanted: &[Loss],
-        kept: u64,
-    ) -> Option<()> {
-        let are_named = are_named(alloc, named, wanted).ok()?;
-        self.verdict.are_lost_named = self.verdict.are_lost_named && are_named;
-        let counts = &mut self.counts;
-        counts.lost = counts.lost.saturating_add(named.len() as u64);
-        counts.lost_kept = counts.lost_kept.saturating_add(kept);
+        verdict.are_delivered_kept = verdict.are_delivered_kept && book.are_delivered_kept;
+        self.counts.add(ended.len(), book);
         Some(())
     }
 
@@ -180,19 +172,6 @@ impl Findings {
         eprintln!(rt; "rounds {}", sizes().count())?;
         eprintln!(rt; "resident kB: first {first}, last {last}, greatest {most}")
     }
-}
-
-/// How many spans a processor counted as dropped, for whatever reason.
-fn all_drops(totals: Totals) -> u64 {
-    let drops = totals.dropped;
-    let by_worker = drops.encode_memory.saturating_add(drops.too_large);
-    let by_worker = by_worker.saturating_add(drops.abandoned);
-    drops.queue_full.saturating_add(by_worker)
-}
-
-/// How many spans it counted as dropped or lost.
-pub(crate) fn all_named(totals: Totals) -> u64 {
-    all_drops(totals).saturating_add(totals.lost)
 }
 
 /// A word for an answer.

@@ -3,7 +3,6 @@ use crate::soak::book::Book;
 use crate::soak::losses::Loss;
 use drop_ledger::NameSink;
 use otlp_span::Entry;
-use std::alloc::Global;
 use std::sync::{Arc, Mutex, Wait};
 use std::thread;
 use std::time::{Clock, Duration};
@@ -12,30 +11,6 @@ use std::time::{Clock, Duration};
 const LOOKS: u32 = 5_000;
 
 const LOOK_MS: u64 = 1;
-
-/// The names that were noted in a round.
-#[derive(Drop)]
-pub(crate) struct Names {
-    /// The numbers of dropped spans.
-    pub(crate) dropped: Vec<u64>,
-    /// Lost spans.
-    pub(crate) lost: Vec<Loss>,
-}
-
-impl Names {
-    /// Of no span.
-    pub(crate) fn new(alloc: Global) -> Names {
-        Names {
-            dropped: Vec::new(alloc),
-            lost: Vec::new(alloc),
-        }
-    }
-
-    /// How many there are.
-    pub(crate) fn count(&self) -> u64 {
-        (self.dropped.len() as u64).saturating_add(self.lost.len() as u64)
-    }
-}
 
 /// Notes names in a book.
 #[derive(Drop)]
