@@ -12,30 +12,28 @@
 //! most once it is stopped, and an attempt takes 5 seconds at most.
 #![tactic(auto)]
 
-mod cart;
 mod clock;
 mod customer;
 mod report;
+mod shop;
 mod site;
 mod spans;
-mod stock;
 
 use anyhow::{Context, Result};
-use cart::CartWork;
 use clock::ShopClock;
 use otlp_serve::Collector;
 use report::{Balance, write_balances, write_report};
+use shop::ShopWork;
 use site::{Name, Site, THREADS, config};
 use std::alloc::Global;
 use std::env;
 use std::net::{Ipv4Addr, Net, TcpListener, TcpStream};
 use std::random::RandomSource;
 use std::sync::{Arc, Wait};
-use std::thread::{self, Threads};
+use std::thread::{self, JoinHandle, Threads};
 use std::time::{Clock, Duration};
-use stock::StockWork;
 use trace_kit::http::{DEFAULT_PATH, HttpExporter, Target};
-use trace_kit::processor::{Done, Work, serve_within};
+use trace_kit::processor::{Done, serve_within};
 use trace_kit::queue::{DEFAULT_NAMES, NewestNames};
 
 /// How many carts the program asks for itself.
@@ -54,13 +52,12 @@ const EXPORT_MS: u64 = 5_000;
 const STOP_MS: u64 = 5_000;
 
 /// Serves a service with its threads, and gives what became of its spans.
-fn run<R, W>(collector: u16, site: &Site<R>, work: &W) -> Result<Balance>
+fn run<R>(collector: u16, work: &ShopWork<R>) -> Result<Balance>
 where
     R: Net<Listener = TcpListener, Stream = TcpStream>,
     R: Threads + Wait + RandomSource + Clock + Copy + Send + Sync + 'static,
-    W: Work<Output = Result<()>> + Sync,
 {
-    let (rt, alloc) = (site.rt, site.alloc);
+    let (rt, alloc) = (work.site.rt, work.site.alloc);
     let target = Target::new(alloc, "127.0.0.1", collector, DEFAULT_PATH)?;
     let exporter = HttpExporter::new(alloc, rt, target, EXPORT_MS);
     let names = NewestNames::new(alloc, DEFAULT_NAMES)?;
@@ -77,7 +74,20 @@ where
     for output in outputs {
         output?;
     }
-    Ok(site.balance(served.desk.totals()))
+    Ok(work.site.balance(served.desk.totals()))
+}
+
+/// Starts a service, which exports to the collector at this port.
+fn start<R>(site: &Arc<Site<R>>, collector: u16, stock: u16) -> Result<JoinHandle<Result<Balance>>>
+where
+    R: Net<Listener = TcpListener, Stream = TcpStream>,
+    R: Threads + Wait + RandomSource + Clock + Copy + Send + Sync + 'static,
+{
+    let work = ShopWork {
+        site: Arc::try_clone(site)?,
+        stock,
+    };
+    Ok(thread::spawn(&site.rt, move || run(collector, &work))?)
 }
 
 /// Asks for the first service's health, and then for carts, one after the other. An item of the
@@ -167,16 +177,8 @@ fn main(rt: HostRuntime) -> Result<()> {
     let stock = Arc::new(alloc, stock)?;
     let cart = Arc::new(alloc, Site::listen(rt, alloc, Name::Cart, clock)?)?;
 
-    let site = Arc::try_clone(&stock)?;
-    let stock_thread = thread::spawn(&rt, move || {
-        let work = StockWork { site };
-        run(to, &work.site, &work)
-    })?;
-    let (site, port) = (Arc::try_clone(&cart)?, stock.port);
-    let cart_thread = thread::spawn(&rt, move || {
-        let work = CartWork { site, stock: port };
-        run(to, &work.site, &work)
-    })?;
+    let port = stock.port;
+    let (stock_thread, cart_thread) = (start(&stock, to, port)?, start(&cart, to, port)?);
 
     match asked {
         Asked::Requests(requests) => {

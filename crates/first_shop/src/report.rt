@@ -1,7 +1,7 @@
 //! What is printed.
 use crate::site::Name;
 use anyhow::{Context, Result, ensure};
-use otlp_read::{Request, Span, read_request};
+use otlp_read::{Span, Triple, read_request};
 use std::alloc::Global;
 use std::io::Write;
 use trace_kit::queue::{DropCounts, Totals};
@@ -26,47 +26,40 @@ pub struct Balance {
     pub totals: Totals,
 }
 
-/// Reads the requests with these bodies.
-fn read_all(alloc: Global, bodies: &[Vec<u8>]) -> Result<Vec<Request>> {
-    let mut requests = Vec::new(alloc);
+/// These bodies one after the other, which are one body (Protocol Buffers encoding, "Last One
+/// Wins": the items of repeated fields are concatenated).
+fn joined(alloc: Global, bodies: &[Vec<u8>]) -> Result<Vec<u8>> {
+    let mut all = Vec::new(alloc);
     for body in bodies {
-        requests.push(read_request(alloc, body)?)?;
+        all.extend_from_slice(body)?;
     }
-    Ok(requests)
-}
-
-/// Appends the spans of a request.
-fn push_spans<'a>(spans: &mut Vec<&'a Span>, request: &'a Request) -> Result<()> {
-    for triple in request.triples()? {
-        spans.push(triple.span)?;
-    }
-    Ok(())
-}
-
-/// The spans of all requests, those of a trace together.
-fn spans_of<'a>(alloc: Global, requests: &'a [Request]) -> Result<Vec<&'a Span>> {
-    let mut spans = Vec::new(alloc);
-    for request in requests {
-        push_spans(&mut spans, request)?;
-    }
-    spans.sort_by(|a, b| a.trace_id.as_slice().cmp(b.trace_id.as_slice()))?;
-    Ok(spans)
+    Ok(all)
 }
 
 /// Whether the parent of a span is elsewhere, or it has none.
-fn is_root(spans: &[&Span], span: &Span) -> bool {
-    let is_parent = |it: &&Span| it.trace_id == span.trace_id && it.span_id == span.parent_span_id;
-    !spans.iter().any(is_parent)
+fn is_root(triples: &[Triple<'_>], span: &Span) -> bool {
+    for triple in triples {
+        let other = triple.span;
+        if other.trace_id == span.trace_id && other.span_id == span.parent_span_id {
+            return false;
+        }
+    }
+    true
 }
 
-/// How many traces they are of, if those of a trace are together.
-fn count_traces(spans: &[&Span]) -> usize {
-    let begins = |pair: &&[&Span]| {
-        let (before, span) = (pair[0], pair[1]);
-        before.trace_id != span.trace_id
-    };
-    let more = spans.windows(2).filter(begins).count();
-    more.saturating_add(usize::from(!spans.is_empty()))
+/// How many spans are of a server, of how many traces they are, if those of a trace are together,
+/// and how many are roots.
+fn count_all(triples: &[Triple<'_>]) -> (u64, u64, u64) {
+    let (mut servers, mut traces, mut roots) = (0u64, 0u64, 0u64);
+    let mut trace: &[u8] = &[];
+    for triple in triples {
+        let span = triple.span;
+        servers = servers.saturating_add(u64::from(span.kind == SPAN_KIND_SERVER));
+        traces = traces.saturating_add(u64::from(span.trace_id.as_slice() != trace));
+        roots = roots.saturating_add(u64::from(is_root(triples, span)));
+        trace = span.trace_id.as_slice();
+    }
+    (servers, traces, roots)
 }
 
 /// Whether a span is an error.
@@ -87,23 +80,34 @@ fn tree_span(span: &Span) -> TreeSpan<'_> {
 }
 
 /// The spans of a trace, as a tree has them.
-fn trace_of<'a>(alloc: Global, spans: &[&'a Span], trace_id: &[u8]) -> Result<Vec<TreeSpan<'a>>> {
+fn trace_of<'a>(
+    alloc: Global,
+    triples: &[Triple<'a>],
+    trace_id: &[u8],
+) -> Result<Vec<TreeSpan<'a>>> {
     let mut trace = Vec::new(alloc);
-    for &span in spans {
-        if span.trace_id.as_slice() == trace_id {
-            trace.push(tree_span(span))?;
+    for triple in triples {
+        if triple.span.trace_id.as_slice() == trace_id {
+            trace.push(tree_span(triple.span))?;
         }
     }
     Ok(trace)
 }
 
+/// The first span that is an error, or the first one where none is.
+fn shown_of<'a>(triples: &[Triple<'a>]) -> Option<&'a Span> {
+    for triple in triples {
+        if is_error(triple.span) {
+            return Some(triple.span);
+        }
+    }
+    Some(triples.first()?.span)
+}
+
 /// Writes the trace of the first span that is an error, or of the first one where none is.
-fn write_trace<W: Write>(output: &mut W, alloc: Global, spans: &[&Span]) -> Result<()> {
-    let failed = spans.iter().find(|span| is_error(span));
-    let span = failed
-        .or(spans.first())
-        .context("the collector has no span")?;
-    let trace = trace_of(alloc, spans, &span.trace_id)?;
+fn write_trace<W: Write>(output: &mut W, alloc: Global, triples: &[Triple<'_>]) -> Result<()> {
+    let shown = shown_of(triples).context("the collector has no span")?;
+    let trace = trace_of(alloc, triples, &shown.trace_id)?;
     let rows = arrange(alloc, &trace)?;
     let mut tree = String::new(alloc);
     write_tree(&mut tree, &trace, &rows, WIDTH)?;
@@ -159,12 +163,10 @@ pub fn write_report<W: Write>(
     bodies: &[Vec<u8>],
     balances: &[Balance],
 ) -> Result<()> {
-    let requests = read_all(alloc, bodies)?;
-    let spans = spans_of(alloc, &requests)?;
-    let (count, traces) = (spans.len(), count_traces(&spans));
-    let of_server = |span: &&&Span| span.kind == SPAN_KIND_SERVER;
-    let servers = spans.iter().filter(of_server).count();
-    let roots = spans.iter().filter(|span| is_root(&spans, span)).count();
+    let request = read_request(alloc, &joined(alloc, bodies)?)?;
+    let mut triples = request.triples()?;
+    triples.sort_by(|a, b| { a.span.trace_id.as_slice().cmp(b.span.trace_id.as_slice()) })?;
+    let (count, (servers, traces, roots)) = (triples.len(), count_all(&triples));
     writeln!(
         output,
         "The collector took {count} spans, {servers} of them of a server, in {traces} traces."
@@ -173,6 +175,6 @@ pub fn write_report<W: Write>(
         output,
         "The traces have {roots} roots, and are whole if each has one. One of them:\n"
     )?;
-    write_trace(output, alloc, &spans)?;
+    write_trace(output, alloc, &triples)?;
     write_balances(output, balances)
 }

@@ -70,7 +70,8 @@ pub fn pause<R: Clock>(rt: &R, ms: u64) {
 pub struct Site<R> {
     pub rt: R,
     pub alloc: Global,
-    name: Name,
+    /// Which service it is.
+    pub name: Name,
     listener: TcpListener,
     /// The port that it listens on.
     pub port: u16,
