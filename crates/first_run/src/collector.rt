@@ -24,12 +24,15 @@ impl FirstPost {
     }
 }
 
-/// Keeps the bodies of all posts, in order.
+/// Keeps the bodies of all posts.
 #[derive(Drop)]
 pub struct Bodies<R> {
     rt: R,
     first_post: Arc<FirstPost>,
-    all: Vec<Vec<u8>>,
+    /// That of the first post, which is answered 503.
+    pub first: Vec<u8>,
+    /// Those of all others, one after the other, which are one body. Each is answered 200.
+    pub taken: Vec<u8>,
 }
 
 impl<R> Bodies<R> {
@@ -38,26 +41,23 @@ impl<R> Bodies<R> {
         Bodies {
             rt,
             first_post,
-            all: Vec::new(alloc),
+            first: Vec::new(alloc),
+            taken: Vec::new(alloc),
         }
-    }
-
-    /// The bodies: the first one was answered 503, each other one 200.
-    pub fn all(&self) -> &[Vec<u8>] {
-        &self.all
     }
 }
 
 impl<R: Wait + Clock> TakeBody for Bodies<R> {
     fn take(&mut self, body: Vec<u8>) -> PostReply {
-        let is_first = self.all.is_empty();
-        if is_first {
+        if self.first.is_empty() {
             self.first_post.came.open(&self.rt);
             let _ = self.first_post.may_be_answered.wait(&self.rt);
-        }
-        if self.all.push(body).is_err() || is_first {
+            self.first = body;
             return PostReply::of(ReplyStatus::ServiceUnavailable);
         }
-        PostReply::of(ReplyStatus::Ok)
+        match self.taken.extend_from_slice(&body) {
+            Ok(()) => PostReply::of(ReplyStatus::Ok),
+            Err(_) => PostReply::of(ReplyStatus::ServiceUnavailable),
+        }
     }
 }

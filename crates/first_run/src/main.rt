@@ -47,7 +47,14 @@ fn main(rt: HostRuntime) -> Result<()> {
     let bodies = collector.stop(&rt)?;
     let totals = served.desk.totals();
     let output = &mut rt.stdout();
-    write_report(output, alloc, SPANS, totals, &served.sink, bodies.all()).context(
-        "not all was printed",
+    write_report(
+        output,
+        alloc,
+        SPANS,
+        totals,
+        &served.sink,
+        &bodies.first,
+        &bodies.taken,
     )
+    .context("not all was printed")
 }

@@ -1,6 +1,6 @@
 //! What is printed.
 use anyhow::{Context, Result, ensure};
-use otlp_read::{Request, Span, read_request};
+use otlp_read::{Span, Triple, read_request};
 use std::alloc::Global;
 use std::io::{self, Write};
 use trace_kit::queue::{DropCounts, Entry, NewestNames, Totals};
@@ -11,32 +11,6 @@ const WIDTH: usize = 40;
 
 /// The code of a status that is an error (opentelemetry-proto, trace.proto, "StatusCode").
 const STATUS_CODE_ERROR: i32 = 2;
-
-/// Reads the requests with these bodies.
-fn read_all(alloc: Global, bodies: &[Vec<u8>]) -> Result<Vec<Request>> {
-    let mut requests = Vec::new(alloc);
-    for body in bodies {
-        requests.push(read_request(alloc, body)?)?;
-    }
-    Ok(requests)
-}
-
-/// Appends the spans of a request.
-fn push_spans<'a>(spans: &mut Vec<&'a Span>, request: &'a Request) -> Result<()> {
-    for triple in request.triples()? {
-        spans.push(triple.span)?;
-    }
-    Ok(())
-}
-
-/// The spans of all requests.
-fn spans_of<'a>(alloc: Global, requests: &'a [Request]) -> Result<Vec<&'a Span>> {
-    let mut spans = Vec::new(alloc);
-    for request in requests {
-        push_spans(&mut spans, request)?;
-    }
-    Ok(spans)
-}
 
 /// A span, as a tree has it.
 fn tree_span(span: &Span) -> TreeSpan<'_> {
@@ -50,28 +24,27 @@ fn tree_span(span: &Span) -> TreeSpan<'_> {
     }
 }
 
-/// The spans of a trace.
-fn trace_of<'a>(alloc: Global, spans: &[&'a Span], trace_id: &[u8]) -> Result<Vec<TreeSpan<'a>>> {
+/// The spans of the first trace.
+fn first_trace<'a>(alloc: Global, triples: &[Triple<'a>]) -> Result<Vec<TreeSpan<'a>>> {
+    let first = triples.first().context("the collector has no span")?;
     let mut trace = Vec::new(alloc);
-    for &span in spans {
-        if span.trace_id.as_slice() == trace_id {
-            trace.push(tree_span(span))?;
+    for triple in triples {
+        if triple.span.trace_id == first.span.trace_id {
+            trace.push(tree_span(triple.span))?;
         }
     }
     Ok(trace)
 }
 
-/// Writes how many spans the collector took, and the trace of the first one as a tree. The first
-/// body isn't counted: it was answered 503, and came again.
-fn write_trace<W: Write>(output: &mut W, alloc: Global, bodies: &[Vec<u8>]) -> Result<()> {
-    let requests = read_all(alloc, bodies.get(1..).unwrap_or_default())?;
-    let spans = spans_of(alloc, &requests)?;
-    let first = spans.first().context("the collector has no span")?;
-    let trace = trace_of(alloc, &spans, &first.trace_id)?;
+/// Writes how many spans the collector took by this body, and the trace of the first one as a tree.
+fn write_trace<W: Write>(output: &mut W, alloc: Global, body: &[u8]) -> Result<()> {
+    let request = read_request(alloc, body)?;
+    let triples = request.triples()?;
+    let trace = first_trace(alloc, &triples)?;
     let rows = arrange(alloc, &trace)?;
     let mut tree = String::new(alloc);
     write_tree(&mut tree, &trace, &rows, WIDTH)?;
-    let count = spans.len();
+    let count = triples.len();
     writeln!(
         output,
         "The collector took {count} spans. The first trace, as it was read:\n"
@@ -127,34 +100,36 @@ fn write_names<W: Write>(output: &mut W, names: &NewestNames) -> io::Result<()> 
 }
 
 /// Writes that the first body came again, if it did with the same bytes.
-fn write_retry<W: Write>(output: &mut W, bodies: &[Vec<u8>]) -> Result<()> {
-    let (first, later) = bodies.split_first().context("the collector has no batch")?;
-    let is_same = later.first().is_some_and(|second| second == first);
-    ensure!(is_same, "the first batch did not come again");
+fn write_retry<W: Write>(output: &mut W, first: &[u8], taken: &[u8]) -> Result<()> {
+    ensure!(
+        taken.starts_with(first),
+        "the first batch did not come again"
+    );
     let size = first.len();
     write!(output, "\nThe collector answered 503 to the first batch. ")?;
     writeln!(output, "The worker sent it again: the same {size} bytes.\n")?;
     Ok(())
 }
 
-/// Writes all: of so many spans that ended, by the service's counts and names and by the bodies
-/// that the collector has.
+/// Writes all: of so many spans that ended, by the service's counts and names, by the body that the
+/// collector answered 503, and by those that it took after it.
 pub fn write_report<W: Write>(
     output: &mut W,
     alloc: Global,
     ended: u64,
     totals: Totals,
     names: &NewestNames,
-    bodies: &[Vec<u8>],
+    first: &[u8],
+    taken: &[u8],
 ) -> Result<()> {
-    write_trace(output, alloc, bodies)?;
+    write_trace(output, alloc, taken)?;
     write_sum(output, ended, totals)?;
     writeln!(
         output,
         "Each span that was not delivered is named, with the reason:"
     )?;
     write_names(output, names)?;
-    write_retry(output, bodies)?;
+    write_retry(output, first, taken)?;
     writeln!(
         output,
         "Next: docs/GUIDE.md traces a service of your own; make tour shows more."
