@@ -5,7 +5,7 @@ use crate::tests::spans::{
     CALLS, END, START, WORD, call, limits, only_span, opening, provider, remote, scope, text, words,
 };
 use linked_list_allocator::LocalHeap;
-use otlp_ids::{OutOfMemory, copy_text};
+use otlp_ids::copy_text;
 use otlp_span::{Kind, Resource, Scope, SpanCall, SpanData, replay};
 use otlp_value::{AttributeList, Limits, Value};
 use std::alloc::{Allocator, Global};
@@ -30,27 +30,20 @@ enum Making {
     Pass,
     /// A child that is started by `start` and called through `Span::call`.
     CalledSpan,
-    /// A child that is started by `start_copied` and called by the methods of the same names.
-    NamedCalls,
-    /// A child that is started and called by what copies all that it is lent.
+    /// A child that is started and called by what copies all that it is lent, and then does as
+    /// `start_copied` and as the methods of the same names.
     LentCalls,
     /// The calls, in a list.
     Replay,
 }
 
-/// A value of each kind: four whose copies take memory, and six whose copies take none.
+/// A value of each kind whose copy takes memory.
 fn value_at<A: Allocator + Copy>(rt: &impl Abort, alloc: A, number: u32) -> Value<A> {
     match number {
         0 => Value::Text(text(rt, alloc, "café")),
         1 => Value::Bools(Vec::from_slice(alloc, &[true, false]).expect(rt, "memory")),
         2 => Value::Ints(Vec::from_slice(alloc, &[i64::MIN, -1, 7]).expect(rt, "memory")),
-        3 => Value::Texts(texts(rt, alloc)),
-        4 => Value::Bool(true),
-        5 => Value::Int(-7),
-        6 => Value::Text(String::new(alloc)),
-        7 => Value::Texts(Vec::new(alloc)),
-        8 => Value::Bools(Vec::new(alloc)),
-        _ => Value::Ints(Vec::new(alloc)),
+        _ => Value::Texts(texts(rt, alloc)),
     }
 }
 
@@ -148,56 +141,6 @@ fn called_span<A: Allocator + Copy>(
     Ok(end(rt, alloc, &mut span, &mut pass))
 }
 
-/// Makes a call by the method of its name. None of these is an end.
-fn call_by_name<A: Allocator + Copy>(
-    span: &mut Span<A>,
-    call: SpanCall<A>,
-) -> Result<(), OutOfMemory> {
-    match call {
-        SpanCall::SetAttribute(key, value) => span.set_attribute(key, value)?,
-        SpanCall::AddEvent {
-            name,
-            timestamp,
-            attributes,
-        } => span.add_event(name, timestamp, attributes)?,
-        SpanCall::RecordException {
-            exception_type,
-            message,
-            stacktrace,
-            timestamp,
-            attributes,
-        } => {
-            span.record_exception(exception_type, message, stacktrace, timestamp, attributes)?;
-        }
-        SpanCall::AddLink {
-            span_context,
-            attributes,
-        } => span.add_link(span_context, attributes)?,
-        SpanCall::SetStatus(status) => span.set_status(status),
-        SpanCall::UpdateName(name) => span.update_name(name),
-        SpanCall::End(_) => {}
-    }
-    Ok(())
-}
-
-fn named_calls<A: Allocator + Copy>(
-    rt: &impl Abort,
-    alloc: Global,
-    (ample, scarce): (A, A),
-) -> Result<String, StartFault> {
-    let provider = provider(rt, ample, limits());
-    let tracer = provider.tracer(scope(rt, ample));
-    let parent = remote(rt, ample);
-    let mut words = words(rt, ample, WORD);
-    let kind = Kind::Server;
-    let mut span = tracer.start_copied(scarce, &mut words, Some(&parent), "GET /", kind, START)?;
-    for number in 0..CALLS {
-        call_by_name(&mut span, call(rt, ample, number))?;
-    }
-    let mut pass = BodyPass::new(ample, 1).expect(rt, "memory");
-    Ok(end(rt, alloc, &mut span, &mut pass))
-}
-
 fn lent_calls<A: Allocator + Copy>(
     rt: &impl Abort,
     alloc: Global,
@@ -246,7 +189,6 @@ fn made<A: Allocator + Copy>(
         Making::Resource => resource(rt, alloc, (ample, scarce)),
         Making::Pass => Ok(shown(rt, alloc, &BodyPass::new(scarce, 1)?)),
         Making::CalledSpan => called_span(rt, alloc, (ample, scarce)),
-        Making::NamedCalls => named_calls(rt, alloc, (ample, scarce)),
         Making::LentCalls => lent_calls(rt, alloc, (ample, scarce)),
         Making::Replay => replayed(rt, alloc, (ample, scarce)),
     }
@@ -340,7 +282,7 @@ const LENT: &str = concat!(
 );
 
 /// What is made, how many calls for memory that takes, and what it is.
-const MADE: [(Making, u64, &str); 21] = [
+const MADE: [(Making, u64, &str); 14] = [
     (Making::CopiedText, 1, "\"café\""),
     (Making::TextValue, 1, "Text(\"café\")"),
     (
@@ -357,12 +299,6 @@ const MADE: [(Making, u64, &str); 21] = [
         "Ints([-9223372036854775808, -1, 7])",
     ),
     (Making::CopiedValue(3), 3, "Texts([\"one\", \"\", \"two\"])"),
-    (Making::CopiedValue(4), 0, "Bool(true)"),
-    (Making::CopiedValue(5), 0, "Int(-7)"),
-    (Making::CopiedValue(6), 0, "Text(\"\")"),
-    (Making::CopiedValue(7), 0, "Texts([])"),
-    (Making::CopiedValue(8), 0, "Bools([])"),
-    (Making::CopiedValue(9), 0, "Ints([])"),
     // The list has room for eight, and grows once.
     (Making::List, 2, "(10, 1, Some((\"j\", Int(1))))"),
     (
@@ -372,14 +308,13 @@ const MADE: [(Making, u64, &str); 21] = [
         "(5, Some((\"service.name\", Text(\"till\"))), Some((\"a\", Text(\"1\"))))",
     ),
     (Making::Pass, 1, "BodyPass { spans: [], dropped: 0 }"),
-    // A start takes the trace state twice, the slip and the record, and `start_copied` the name. A
-    // call takes the room of its list, once, and of its attributes; an exception two keys, the room
-    // of its attributes and its name.
+    // A start takes the trace state twice, the slip and the record. A call takes the room of its
+    // list, once, and of its attributes; an exception two keys, the room of its attributes and its
+    // name.
     (Making::CalledSpan, 4 + 1 + 2 + 4 + 2, CALLED),
-    (Making::NamedCalls, 5 + 1 + 2 + 4 + 2, CALLED),
-    // The start also takes two keys, a text and the room of the list; and of the link its trace
-    // state, its pairs with a key, what is kept of them, and its room. A call mostly takes a key,
-    // and what its value takes; the list of attributes grows once more.
+    // The start also takes the name, two keys, a text and the room of the list; and of the link its
+    // trace state, its pairs with a key, what is kept of them, and its room. A call mostly takes a
+    // key, and what its value takes; the list of attributes grows once more.
     (Making::LentCalls, 14 + 38, LENT),
     // The slip and the record, and of each call its copy and what is kept of it.
     (Making::Replay, 25, CALLED),

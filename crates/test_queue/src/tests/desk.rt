@@ -6,16 +6,17 @@ use crate::tests::spans::name;
 use batch_desk::{FateCounts, Totals};
 use linked_list_allocator::LocalHeap;
 use otlp_span::Reason;
+use span_ring::MAX_QUEUE;
 use std::alloc::Allocator;
 use std::process::Abort;
 use test_support::FailingAllocator;
 
-/// The most spans that a queue has by the standard's numbers.
+/// How many spans are in a batch of the largest queue.
 const MANY: u64 = 2048;
 
 #[test]
 fn a_batch_of_thousands_is_named_and_a_desk_goes_with_what_it_has(rt: HostRuntime) {
-    let mut desk = Driver::of_sizes(&rt, rt.alloc(), 65_536, MANY as usize);
+    let mut desk = Driver::of_sizes(&rt, rt.alloc(), MAX_QUEUE, MANY as usize);
     desk.queue(&rt, 0..MANY);
     let batch = desk.take(&rt);
     desk.queue(&rt, MANY..MANY + 3);

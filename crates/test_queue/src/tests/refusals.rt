@@ -4,7 +4,7 @@ use crate::tests::equal::assert_equal;
 use batch_desk::{Desk, DeskConfig};
 use drop_ledger::NewestNames;
 use linked_list_allocator::LocalHeap;
-use span_ring::{MAX_QUEUE, RingFault, SpanRing};
+use span_ring::{RingFault, SpanRing};
 use std::alloc::{Allocator, Global};
 use std::process::Abort;
 use test_support::FailingAllocator;
@@ -20,15 +20,15 @@ enum Making {
     Sink,
 }
 
-fn ring_fault<A: Allocator + Copy>(alloc: A, queue: usize, batch: usize) -> Option<RingFault> {
-    let made: Result<SpanRing<u32, A>, RingFault> = SpanRing::new(alloc, queue, batch);
+fn ring_fault<A: Allocator + Copy>(alloc: A, batch: usize) -> Option<RingFault> {
+    let made: Result<SpanRing<u32, A>, RingFault> = SpanRing::new(alloc, 4, batch);
     made.err()
 }
 
-fn desk_fault<A: Allocator + Copy>(alloc: A, queue: usize, batch: usize) -> Option<RingFault> {
+fn desk_fault<A: Allocator + Copy>(alloc: A) -> Option<RingFault> {
     let config = DeskConfig {
-        queue,
-        batch,
+        queue: 4,
+        batch: 2,
         delay_ms: 0,
     };
     Desk::new(alloc, config, 0).err()
@@ -47,8 +47,8 @@ fn is_refused(rt: &impl Abort, alloc: Global, making: Making, fail_index: u64) -
     let heap = LocalHeap::new(alloc, 16_384).expect(rt, "memory");
     let scarce = FailingAllocator::new(&heap, fail_index);
     let fault = match making {
-        Making::Ring(batch) => ring_fault(&scarce, 4, batch),
-        Making::Desk => desk_fault(&scarce, 4, 2),
+        Making::Ring(batch) => ring_fault(&scarce, batch),
+        Making::Desk => desk_fault(&scarce),
         Making::Sink => sink_fault(&scarce),
     };
     let is_refused = scarce.has_failed();
@@ -83,10 +83,4 @@ fn each_call_for_memory_is_refused_in_turn(rt: HostRuntime) {
         let refused = count_refused(&rt, rt.alloc(), making);
         assert_equal(&rt, (making, refused), (making, calls));
     }
-}
-
-#[test]
-fn the_largest_queue_is_made(rt: HostRuntime) {
-    assert_equal(&rt, desk_fault(rt.alloc(), MAX_QUEUE, MAX_QUEUE), None);
-    assert_equal(&rt, ring_fault(rt.alloc(), MAX_QUEUE, 1), None);
 }
