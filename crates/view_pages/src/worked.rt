@@ -76,7 +76,6 @@ pub(crate) fn services()
 {}
 
 /// A number of traces has its digits in groups of three.
-#[tactic(auto, unfolding(crate::specs::Lists::grouped, crate::specs::Lists::thousands, crate::specs::Lists::millions, crate::specs::Dates::three_html, crate::specs::Html::html_bytes))]
 pub(crate) fn numbers()
     ensures three { html_bytes (grouped 999) ≡ codes "999" }
     ensures thousands { html_bytes (grouped 1_260) ≡ codes "1,260" }
