@@ -126,13 +126,14 @@ fn send_all<T: Transport + Drop>(
         None
     };
     let target = Target::new(alloc, "shop.example", 8080, asked.path)?;
-    for (method, fields, body) in asked.requests {
+    for sent in asked.requests {
+        let (method, fields, body) = *sent;
         let request = ClientRequest {
             method,
             fields,
             body,
         };
-        let reply = if fields.is_empty() && *method == "GET" {
+        let reply = if fields.is_empty() && method == "GET" {
             client.get(parent.as_ref(), &target, pass)
         } else {
             client.send(parent.as_ref(), &target, &request, pass)
@@ -171,11 +172,15 @@ fn ask(rt: &HostRuntime, asked: &Asked<'_>) -> Result<Came, Fail> {
     } else {
         send_all(alloc, Client::new(alloc, parts), asked, &mut pass)?
     };
-    let counts = (log.dials.get(), log.requests.get());
+    let Log {
+        bytes,
+        dials,
+        requests,
+    } = log;
     Ok(Came {
         replies,
-        sent: log.bytes.into_inner(),
-        counts,
+        sent: bytes.into_inner(),
+        counts: (dials.get(), requests.get()),
         spans: lines_of(alloc, pass.spans())?,
         moments: moments_of(alloc, pass.spans())?,
         untraced,
