@@ -15,7 +15,6 @@ use otlp_wire::{
     PartialSuccess, Response, read_response, write_fixed32, write_fixed64, write_len,
     write_response, write_varint,
 };
-
 use std::alloc::{Allocator, Global};
 use std::process::Abort;
 use test_support::FailingAllocator;
