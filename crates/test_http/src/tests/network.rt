@@ -138,7 +138,8 @@ impl<'a> Net for Network<'a> {
     }
 
     fn connect_timeout(&self, addr: SocketAddr, timeout: Duration) -> io::Result<Connection<'a>> {
-        self.settings.dials.update(|n| n.saturating_add(1));
+        let dials = self.settings.dials.get();
+        self.settings.dials.set(dials.saturating_add(1));
         self.settings.patience.set(Some(timeout));
         if addr != SocketAddr::from((Ipv4Addr::new(127, 0, 0, 3), 4318u16)) {
             return Err(io::Error::from(ErrorKind::ConnectionRefused));
@@ -262,7 +263,10 @@ fn attempt(rt: &impl Abort, alloc: Global, network: Network<'_>) -> (Outcome, u6
     let target = Target::new(alloc, "collector", 4318, "/v1/traces").expect(rt, "a target");
     let mut exporter = HttpExporter::new(alloc, network, target, 30_000).within_ms(10_000);
     let outcome = exporter.attempt(b"abc");
-    let waited = network.settings.read.get().map(|time| time.as_secs());
+    let waited = match network.settings.read.get() {
+        Some(time) => Some(time.as_secs()),
+        None => None,
+    };
     (outcome, network.settings.seconds.get(), waited)
 }
 

@@ -60,7 +60,10 @@ impl TimedStream for LineEnd<'_> {
         };
         self.given += 1;
         let mut reply = *reply;
-        reply.read(buf).map_err(|_| DeviceFailed)
+        match reply.read(buf) {
+            Ok(count) => Ok(count),
+            Err(_) => Err(DeviceFailed),
+        }
     }
 
     fn write_within(&mut self, buf: &[u8], _timeout: Duration) -> Result<usize, DeviceFailed> {
@@ -70,11 +73,14 @@ impl TimedStream for LineEnd<'_> {
         let Ok(mut bytes) = self.log.bytes.try_borrow_mut() else {
             return Err(DeviceFailed);
         };
-        bytes.extend_from_slice(buf).map_err(|_| DeviceFailed)?;
         if buf.ends_with(b"\r\n\r\n") {
-            self.log.requests.update(|count| count.saturating_add(1));
+            let requests = self.log.requests.get();
+            self.log.requests.set(requests.saturating_add(1));
         }
-        Ok(buf.len())
+        match bytes.extend_from_slice(buf) {
+            Ok(()) => Ok(buf.len()),
+            Err(_) => Err(DeviceFailed),
+        }
     }
 }
 
