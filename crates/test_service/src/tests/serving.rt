@@ -2,7 +2,7 @@
 use crate::tests::equal::assert_equal;
 use crate::tests::requests::{Answers, Came, Names, Roots, config, ends};
 use batch_processor::WorkEnd;
-use batch_service::{Done, serve, serve_within};
+use batch_service::{Done, Served, serve, serve_within};
 use otlp_span::{Entry, Reason};
 use retry_core::{Outcome, RetryAfter};
 use std::alloc::Global;
@@ -70,12 +70,15 @@ fn end_of<R: Abort + Drop>(
     took_ms: u64,
 ) -> End {
     let Done { outputs, served } = done;
-    let totals = served.desk.totals();
-    let in_ledgers = served
-        .desk
-        .ledger()
-        .len()
-        .saturating_add(served.desk.lost().len());
+    let Served {
+        desk,
+        exporter,
+        sink,
+        end,
+    } = served;
+    let Names { names, given: _ } = sink;
+    let totals = desk.totals();
+    let in_ledgers = desk.ledger().len().saturating_add(desk.lost().len());
     assert_equal(rt, (in_ledgers, totals.closed), (0, true));
     let dropped = totals.dropped;
     End {
@@ -87,11 +90,11 @@ fn end_of<R: Abort + Drop>(
             dropped.queue_full,
             totals.left,
         ),
-        end: served.end,
-        attempts: served.exporter.attempts,
-        unnamed: served.exporter.unnamed,
+        end,
+        attempts: exporter.attempts,
+        unnamed: exporter.unnamed,
         took_ms,
-        names: served.sink.names,
+        names,
     }
 }
 
