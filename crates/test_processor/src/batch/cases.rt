@@ -137,7 +137,7 @@ const SENT_800: &str = concat!(
 );
 
 /// What is done with a processor whose queue and batches have so much room.
-const RUNS: [(usize, usize, &[Outcome], &[Step], &str); 11] = [
+const RUNS: [(usize, usize, &[Outcome], &[Step], &str); 9] = [
     // Names of dropped spans are popped, the newest first, or drained, the oldest first. A popped
     // name is gone.
     (
@@ -149,14 +149,6 @@ const RUNS: [(usize, usize, &[Outcome], &[Step], &str); 11] = [
             " Queued(0) Dropped(1, QueueFull) (1, QueueFull) None Dropped(4, QueueFull)",
             " (2, QueueFull) (3, QueueFull) (4, QueueFull) None accepted 1 left 1 full 4",
         ),
-    ),
-    // Nothing was queued, so a shutdown waits for nothing.
-    (
-        8,
-        4,
-        &[],
-        &[Flush, Shutdown, End(1), Flush],
-        " Ok(Flushed) Ok(Flushed) Late Ok(Flushed) late 1 closed 1",
     ),
     // Counts and a flush are those of their own call, not of an earlier one. The worker has left, so
     // a flush is answered at once, and no batch is sent.
@@ -180,15 +172,8 @@ const RUNS: [(usize, usize, &[Outcome], &[Step], &str); 11] = [
             " accepted 1 left 1 late 1 closed 1",
         ),
     ),
-    // A worker that leaves after one to four turns, once or twice: its batch is abandoned, or lost
-    // where it was handed over. Spans that end after it wait.
-    (
-        2,
-        2,
-        &[NONE],
-        &[End(2), Work(0, 1), Leave, Leave],
-        " Queued(1) 0 accepted 2 taken 2 unsent 2 (1, Abandoned) (0, Abandoned)",
-    ),
+    // A worker that leaves after two, three or four turns: its batch is abandoned, or lost where it
+    // was handed over. Spans that end after it wait.
     (
         2,
         2,
@@ -203,7 +188,7 @@ const RUNS: [(usize, usize, &[Outcome], &[Step], &str); 11] = [
         2,
         2,
         &[NONE],
-        &[End(2), Work(0, 3), Leave, Drain],
+        &[End(2), Work(0, 3), Leave, Leave, Drain],
         concat!(
             " Queued(1) 1 (0, LeftHanded) (1, LeftHanded)",
             " accepted 2 taken 2 handed 2 lost 2 abandoned 1",
