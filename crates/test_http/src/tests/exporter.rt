@@ -2,7 +2,7 @@
 
 use crate::tests::equal::assert_equal;
 use crate::tests::fixture::{Text, bytes_of, target, wire};
-use http_exporter::{Buffered, Dial, FailureWatch, LinkExporter, WatchedExporter};
+use http_exporter::{Buffered, Dial, Failure, FailureWatch, LinkExporter, WatchedExporter};
 use otlp_http::{FailingCalls, FailingWire, FaultRead};
 use retry_core::Outcome;
 use span_exporter::Exporter;
@@ -65,16 +65,18 @@ fn a_request_goes_out_in_one_write_or_two(rt: HostRuntime) {
     }
 }
 
+/// The same exporter, which reads a reply where a write failed.
+fn asking(plain: LinkExporter<ListedLinks>) -> LinkExporter<ListedLinks> {
+    plain.reading_after_a_stop()
+}
+
 #[test]
 fn a_reply_after_a_stopped_write_is_read_where_that_is_asked_for(rt: HostRuntime) {
     let alloc = rt.alloc();
     let mut link = link(&rt, alloc, TOO_LARGE, FailingCalls::Once(1));
-    let exporter = exporter(&rt, alloc, Vec::new(alloc)).reading_after_a_stop();
-    assert_equal(
-        &rt,
-        exporter.post(&mut link, &[7; 5_000]),
-        Outcome::Refused(413),
-    );
+    let exporter = asking(exporter(&rt, alloc, Vec::new(alloc)));
+    let outcome = exporter.post(&mut link, &[7; 5_000]);
+    assert_equal(&rt, outcome, Outcome::Refused(413));
 }
 
 /// How many bytes are read of this wire by a link with a buffer, byte by byte.
@@ -119,13 +121,19 @@ const WATCHED: [(Outcome, &str); 7] = [
     ),
 ];
 
-/// What a watch shows, and `none` where it shows nothing.
-fn watched_text<R: Abort + Wait>(rt: &R, alloc: Global, watch: &FailureWatch) -> String {
-    let text = match &watch.last(rt) {
+/// What a failure says, and `none` where there is none.
+fn text_of(rt: &impl Abort, alloc: Global, failure: Option<&Failure>) -> String {
+    let text = match failure {
         Some(failure) => format!(in alloc; "{failure}"),
         None => format!(in alloc; "none"),
     };
     text.expect(rt, "memory")
+}
+
+/// What a watch shows.
+fn watched_text<R: Abort + Wait>(rt: &R, alloc: Global, watch: &FailureWatch) -> String {
+    let last = watch.last(rt);
+    text_of(rt, alloc, last.as_ref())
 }
 
 #[test]
