@@ -4,6 +4,7 @@ use crate::tests::samples::{FIRST, SPAN_FIELD, spans_of};
 use linked_list_allocator::LocalHeap;
 use otlp_proto::body_of;
 use otlp_read::{ReadFault, read_request};
+use otlp_wire::{read_response, write_response};
 use std::alloc::{Allocator, Global};
 use std::process::Abort;
 
@@ -70,4 +71,17 @@ fn half_a_million_arrays_in_one_another_nest_too_deep(rt: HostRuntime) {
     let body = deep_body(&rt, rt.alloc());
     let heap = LocalHeap::new(rt.alloc(), 65_536).expect(&rt, "memory");
     assert_equal(&rt, counted(&heap, &body), Err(ReadFault::TooDeep));
+}
+
+#[test]
+fn a_response_with_a_long_message_is_read_and_written(rt: HostRuntime) {
+    let alloc = rt.alloc();
+    let message = "x".repeat(alloc, 70_000).expect(&rt, "memory");
+    let front = b"\x0a\xf4\xa2\x04\x12\xf0\xa2\x04".as_slice();
+    let parts = [front, message.as_bytes()];
+    let body = parts.concat(alloc).expect(&rt, "memory");
+    let response = read_response(alloc, &body).expect(&rt, "a response");
+    assert_equal(&rt, response.partial_success().error_message(), &message);
+    let written = write_response(alloc, &response).expect(&rt, "memory");
+    assert_equal(&rt, written.as_slice(), body.as_slice());
 }
