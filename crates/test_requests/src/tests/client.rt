@@ -56,6 +56,14 @@ const PATH: &str = "/items?page=2";
 /// A reply that has what was asked for, after which the connection may be kept.
 const GOOD: &[u8] = b"HTTP/1.1 200 OK\r\nContent-Length: 2\r\n\r\nhi";
 
+/// Two connections that have it.
+const LINES: &[Line] = &[(&[GOOD], After::Closes), (&[GOOD], After::Closes)];
+
+/// A request, and two.
+const ONE: &[Sent] = &[GET];
+
+const TWO: &[Sent] = &[GET, GET];
+
 /// These requests within roots, over connections that have these replies.
 fn asked(lines: &'static [Line], requests: &'static [Sent]) -> Asked<'static> {
     Asked {
@@ -455,7 +463,7 @@ const ENDINGS: [Ending; 9] = [
 fn what_came_is_answered_and_is_on_the_span(rt: HostRuntime) -> Result<(), Fail> {
     let alloc = rt.alloc();
     for (lines, replies, mark, ends) in ENDINGS {
-        let came = ask(&rt, &asked(lines, &[GET]))?;
+        let came = ask(&rt, &asked(lines, ONE))?;
         assert_equal(&rt, came.replies.as_str(), replies);
         let span = format!(in alloc;
             "GET Client 0000000000000003{mark} http.request.method=Text(\"GET\") \
@@ -484,7 +492,7 @@ const BAD: [(&[Sent], &str); 3] = [
 #[test]
 fn a_bad_request_is_refused_and_nothing_is_sent(rt: HostRuntime) -> Result<(), Fail> {
     for (requests, replies) in BAD {
-        let came = ask(&rt, &asked(&[(&[GOOD], After::Closes)], requests))?;
+        let came = ask(&rt, &asked(LINES, requests))?;
         assert_equal(&rt, came.replies.as_str(), replies);
         assert_equal(
             &rt,
@@ -582,10 +590,7 @@ fn a_span_starts_before_the_request_goes_out_and_ends_after_its_reply(
 ) -> Result<(), Fail> {
     let two = Asked {
         step: 10,
-        ..asked(
-            &[(&[GOOD], After::Closes), (&[GOOD], After::Closes)],
-            &[GET, GET],
-        )
+        ..asked(LINES, TWO)
     };
     let came = ask(&rt, &two)?;
     let moments: [(u64, u64); 2] = [(1_010, 1_030), (1_040, 1_060)];
@@ -600,7 +605,7 @@ fn a_long_path_goes_out_and_is_on_the_span(rt: HostRuntime) -> Result<(), Fail> 
         let path = long_path(alloc, len)?;
         let long = Asked {
             path: path.as_str(),
-            ..asked(&[(&[GOOD], After::Closes)], &[GET])
+            ..asked(LINES, ONE)
         };
         let came = ask(&rt, &long)?;
         let sent = format!(in alloc; "GET {path} HTTP/1.1\r\n")?;
