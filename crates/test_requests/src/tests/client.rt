@@ -65,7 +65,7 @@ const ONE: &[Sent] = &[GET];
 const TWO: &[Sent] = &[GET, GET];
 
 /// These requests within roots, over connections that have these replies.
-fn asked(lines: &'static [Line], requests: &'static [Sent]) -> Asked<'static> {
+fn plain_ask(lines: &'static [Line], requests: &'static [Sent]) -> Asked<'static> {
     Asked {
         sampled: 1,
         listed: "",
@@ -463,7 +463,7 @@ const ENDINGS: [Ending; 9] = [
 fn what_came_is_answered_and_is_on_the_span(rt: HostRuntime) -> Result<(), Fail> {
     let alloc = rt.alloc();
     for (lines, replies, mark, ends) in ENDINGS {
-        let came = ask(&rt, &asked(lines, ONE))?;
+        let came = ask(&rt, &plain_ask(lines, ONE))?;
         assert_equal(&rt, came.replies.as_str(), replies);
         let span = format!(in alloc;
             "GET Client 0000000000000003{mark} http.request.method=Text(\"GET\") \
@@ -492,7 +492,7 @@ const BAD: [(&[Sent], &str); 3] = [
 #[test]
 fn a_bad_request_is_refused_and_nothing_is_sent(rt: HostRuntime) -> Result<(), Fail> {
     for (requests, replies) in BAD {
-        let came = ask(&rt, &asked(LINES, requests))?;
+        let came = ask(&rt, &plain_ask(LINES, requests))?;
         assert_equal(&rt, came.replies.as_str(), replies);
         assert_equal(
             &rt,
@@ -574,7 +574,7 @@ fn a_connection_is_kept_as_long_as_replies_let_it(rt: HostRuntime) -> Result<(),
     for (lines, requests, replies, counts) in KEPT {
         let kept = Asked {
             keeps: true,
-            ..asked(lines, requests)
+            ..plain_ask(lines, requests)
         };
         let came = ask(&rt, &kept)?;
         assert_equal(&rt, came.replies.as_str(), replies);
@@ -590,7 +590,7 @@ fn a_span_starts_before_the_request_goes_out_and_ends_after_its_reply(
 ) -> Result<(), Fail> {
     let two = Asked {
         step: 10,
-        ..asked(LINES, TWO)
+        ..plain_ask(LINES, TWO)
     };
     let came = ask(&rt, &two)?;
     let moments: [(u64, u64); 2] = [(1_010, 1_030), (1_040, 1_060)];
@@ -605,7 +605,7 @@ fn a_long_path_goes_out_and_is_on_the_span(rt: HostRuntime) -> Result<(), Fail> 
         let path = long_path(alloc, len)?;
         let long = Asked {
             path: path.as_str(),
-            ..asked(LINES, ONE)
+            ..plain_ask(LINES, ONE)
         };
         let came = ask(&rt, &long)?;
         let sent = format!(in alloc; "GET {path} HTTP/1.1\r\n")?;
