@@ -8,7 +8,7 @@ use std::hash::{BuildHasherDefault, FoldHasher};
 use test_support::FailingAllocator;
 use trace_lines::{Filter, Summary, TraceText, summary_of_digest};
 use trace_store::{Digest, Limits, SpanSize, TraceDigest, TraceStore, service_of, take_apart};
-use view_json::{Answered, Stats, TraceJson, write_metrics, write_stats, write_traces};
+use view_json::{Stats, TraceJson, write_stats, write_traces};
 use view_pages::{TracePage, write_list_page, write_notice_page};
 
 /// A call, or several that go together.
@@ -25,11 +25,10 @@ enum Call {
     Json,
     Traces,
     Stats,
-    Metrics,
 }
 
 /// Each call, with a part of what it gives.
-const ROWS: [(Call, &str); 12] = [
+const ROWS: [(Call, &str); 11] = [
     (
         Call::Text,
         concat!(
@@ -107,16 +106,6 @@ const ROWS: [(Call, &str); 12] = [
             r#"{"received":12,"kept":10,"evicted":2,"traces":3,"evictedTraces":1,"#,
             r#""pendingBytes":4096,"lastEvicted":["00000000000000000000000000000abc","#,
             r#""0000000000000000000000000000000a"]}"#,
-        ),
-    ),
-    (
-        Call::Metrics,
-        concat!(
-            "# HELP trace_view_connections_total Connections that were taken.\n",
-            "# TYPE trace_view_connections_total counter\ntrace_view_connections_total 4\n",
-            "# HELP trace_view_answers_total Answers, by their status.\n",
-            "# TYPE trace_view_answers_total counter\n",
-            "trace_view_answers_total{status=\"200\"} 31\n",
         ),
     ),
 ];
@@ -265,17 +254,6 @@ fn notice<A: Allocator>(alloc: A) -> Option<String<A>> {
     Some(page)
 }
 
-/// The numbers for Prometheus.
-fn metrics<A: Allocator>(alloc: A) -> Option<String<A>> {
-    let mut text = String::new(alloc);
-    let answered = [Answered {
-        status: 200,
-        answers: 31,
-    }];
-    write_metrics(&mut text, &STATS, &answered, 4).ok()?;
-    Some(text)
-}
-
 /// What a call gives with this memory. What it needs is made of ample memory.
 fn made<A: Allocator + Copy>(ample: A, alloc: A, call: Call) -> Option<String<A>> {
     match call {
@@ -290,7 +268,6 @@ fn made<A: Allocator + Copy>(ample: A, alloc: A, call: Call) -> Option<String<A>
         Call::Json => whole(alloc, Form::Json(TraceJson::new(alloc, spans(ample)?))),
         Call::Traces => String::from_utf8(write_traces(alloc, &[SUMMARY]).ok()?).ok(),
         Call::Stats => String::from_utf8(write_stats(alloc, &STATS, &[0xabc, 10]).ok()?).ok(),
-        Call::Metrics => metrics(alloc),
     }
 }
 
