@@ -61,7 +61,7 @@ pub(crate) fn case<'a>(
 fn assert_answers<R: Wait + Abort + Clock + Copy>(
     rt: R,
     alloc: Global,
-    case: Case<'_>,
+    case: &Case<'_>,
     want: &str,
 ) {
     let heap = LocalHeap::new(alloc, 64).expect(&rt, "memory");
@@ -115,7 +115,7 @@ fn a_batch_is_named_as_its_last_attempt_says(rt: HostRuntime) {
         ),
     ];
     for (outcomes, steps, want) in rows {
-        assert_answers(rt, rt.alloc(), case(config(16, 2), outcomes, steps), want);
+        assert_answers(rt, rt.alloc(), &case(config(16, 2), outcomes, steps), want);
     }
 }
 
@@ -234,7 +234,7 @@ fn each_run_is_answered_as_it_is_written(rt: HostRuntime) {
         assert_answers(
             rt,
             rt.alloc(),
-            case(config(queue, batch), outcomes, steps),
+            &case(config(queue, batch), outcomes, steps),
             want,
         );
     }
@@ -269,7 +269,7 @@ fn a_body_above_the_greatest_is_not_sent(rt: HostRuntime) {
             max_body,
             ..config(2, 1)
         };
-        assert_answers(rt, rt.alloc(), case(config, &[], steps), want);
+        assert_answers(rt, rt.alloc(), &case(config, &[], steps), want);
     }
 }
 
@@ -298,7 +298,7 @@ fn a_batch_is_sent_again_after_the_wait(rt: HostRuntime) {
         assert_answers(
             rt,
             rt.alloc(),
-            case,
+            &case,
             " Queued(0) 0 1 1 2 33 accepted 1 taken 1 handed 1 delivered 1",
         );
     }
@@ -326,7 +326,7 @@ fn a_batch_without_a_reply_waits_as_its_word_says(rt: HostRuntime) {
         assert_answers(
             rt,
             rt.alloc(),
-            case,
+            &case,
             " Queued(0) 1 1 2 accepted 1 taken 1 handed 1 delivered 1",
         );
     }
@@ -345,7 +345,7 @@ fn idle_turns_take_their_time(rt: HostRuntime) {
     ] {
         let steps = [End(spans), Work(0, 4), Idle(SECOND, 20)];
         let case = case(config(8, batch), &[IN_TWO_SECONDS], &steps);
-        assert_answers(rt, rt.alloc(), case, want);
+        assert_answers(rt, rt.alloc(), &case, want);
     }
 }
 
@@ -376,6 +376,6 @@ fn what_is_discarded_is_named(rt: HostRuntime) {
             after: Some(after.as_slice()),
             ..case(config(2, 1), &[], &steps)
         };
-        assert_answers(rt, rt.alloc(), case, want);
+        assert_answers(rt, rt.alloc(), &case, want);
     }
 }

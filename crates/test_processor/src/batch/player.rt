@@ -205,7 +205,7 @@ where
 fn play_steps<J, R, A>(
     rt: R,
     alloc: A,
-    case: Case<'_>,
+    case: &Case<'_>,
     passes: &mut [Pass<J, R, A>],
     worker: &mut WorkerPass<J, R, A>,
     exporter: &mut Collector<'_, A>,
@@ -292,7 +292,7 @@ fn play<J, R, A>(
     ample: A,
     scarce: A,
     blank: BatchBlank,
-    case: Case<'_>,
+    case: &Case<'_>,
 ) -> String<A>
 where
     J: Naming,
@@ -347,7 +347,7 @@ pub(crate) fn place_of<R, A>(
     heap: &LocalHeap,
     ample: A,
     scarce: A,
-    case: Case<'_>,
+    case: &Case<'_>,
     texts: &[&str],
 ) -> usize
 where

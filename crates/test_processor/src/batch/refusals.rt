@@ -57,7 +57,7 @@ fn each_refusal_of_memory_is_reported(rt: HostRuntime) {
     let mut has_failed = true;
     for fail_index in 0..150 {
         let scarce = FailingAllocator::new(&heap, fail_index);
-        let place = place_of(rt, &heap, &ample, &scarce, case, &TEXTS);
+        let place = place_of(rt, &heap, &ample, &scarce, &case, &TEXTS);
         let count = counts.get_mut(place).expect(&rt, "a count");
         *count = count.saturating_add(1);
         assert_equal(&rt, heap.used(), 0);
@@ -78,7 +78,7 @@ fn calls<R: Wait + Abort + Clock + Copy>(rt: R, alloc: Global, steps: usize, wan
     let all = [End(2), Work(0, 3), Work(0, 1), Drain];
     let steps = all.get(..steps).expect(&rt, "steps");
     let case = case(config(4, 2), &[Outcome::Refused(400)], steps);
-    place_of(rt, &heap, &ample, &counting, case, &[want]);
+    place_of(rt, &heap, &ample, &counting, &case, &[want]);
     counting.calls()
 }
 
@@ -111,5 +111,5 @@ fn spans_that_were_sent_while_none_waits_are_freed(rt: HostRuntime) {
     let ample = FailingAllocator::new(&heap, u64::MAX);
     let steps = [End(2), Memory, Work(0, 4), Memory, End(1), Memory];
     let case = case(config(4, 2), &[], &steps);
-    place_of(rt, &heap, &ample, &ample, case, &[SENT]);
+    place_of(rt, &heap, &ample, &ample, &case, &[SENT]);
 }
