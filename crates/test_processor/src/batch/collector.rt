@@ -7,7 +7,7 @@ use std::alloc::Allocator;
 
 /// What was handed over: the attempts, and of the first attempt of each batch the resources, the
 /// spans and the bytes.
-#[derive(Debug, Clone, Copy)]
+#[derive(Clone, Copy)]
 pub(crate) struct Sent {
     pub(crate) attempts: usize,
     pub(crate) resources: usize,

@@ -36,7 +36,7 @@ pub(crate) fn is_reached(rt: &impl Clock, stage: &AtomicU64, wanted: u64, looks:
 }
 
 /// What is done with the passes of a processor, before it is shut down.
-#[derive(Debug, Clone, Copy, PartialEq, Eq)]
+#[derive(Clone, Copy)]
 pub(crate) enum Task {
     /// Each thread ends this number of spans. Each is queued, or finds the queue full.
     EndMany(u64),
@@ -58,7 +58,7 @@ pub(crate) enum Task {
 }
 
 /// What gives a worker that waits a batch to send.
-#[derive(Debug, Clone, Copy, PartialEq, Eq)]
+#[derive(Clone, Copy)]
 pub(crate) enum Call {
     /// A span ends, and fills the batch.
     End,

@@ -43,7 +43,7 @@ struct Plan {
 /// What came of it: what an exporter was handed, at how many attempts it saw that what it holds its
 /// reply for was done, how long the worker had waited before the last one, in nanoseconds, and what
 /// the totals say in the end, and how many names were left.
-#[derive(Debug, Clone, Copy)]
+#[derive(Clone, Copy)]
 struct Came {
     sent: Sent,
     seen: u32,
@@ -295,7 +295,7 @@ fn threads_are_answered_while_a_batch_is_sent_or_dropped(rt: HostRuntime) {
             let came = carry_out(rt, rt.alloc(), plan);
             let too_large = came.totals.dropped.too_large;
             let found = (came.sent.attempts, came.seen, too_large);
-            assert_equal(&rt, (plan.task, found), (plan.task, want));
+            assert_equal(&rt, found, want);
         }
     }
 }
@@ -315,6 +315,6 @@ fn a_worker_that_waits_is_woken(rt: HostRuntime) {
                 }
             }
         }
-        assert_equal(&rt, (call, woken), (call, 10));
+        assert_equal(&rt, woken, 10);
     }
 }
