@@ -280,8 +280,8 @@ fn gives<A: Allocator + Copy>(ample: A, alloc: A, call: Call, part: &str) -> Opt
 /// More calls for memory than any of the calls makes.
 const MOST: u64 = 500;
 
-/// Whether a call gives this part of a text, and is an error where any of its calls for memory is
-/// refused. Answers the first index at which it isn't so.
+/// Whether a call gives this part of a text, and where one of its calls for memory is refused is an
+/// error, or does without and gives the same. Answers the first index at which it isn't so.
 fn wrong_index(alloc: Global, call: Call, part: &str) -> Option<u64> {
     for index in 0..MOST {
         let ample = FailingAllocator::new(alloc, u64::MAX);
@@ -294,7 +294,7 @@ fn wrong_index(alloc: Global, call: Call, part: &str) -> Option<u64> {
                 Some(index)
             };
         }
-        if found.is_some() {
+        if found == Some(false) {
             return Some(index);
         }
     }
