@@ -150,15 +150,14 @@ pub fn print_bodies(rt: HostRuntime, rounds: u32) -> Result<()> {
 /// Prints lines of larger batches, and of bodies of empty resources, so that times are seen to grow
 /// with the spans and with the bytes.
 pub fn print_growth(rt: HostRuntime, rounds: u32) -> Result<()> {
-    for times in [10u32, 100] {
-        let (spans, rounds) = (SPANS * times as usize, (rounds / times).max(1));
-        print_batch(rt, spans, 1, 0, rounds)?;
-        print_batch(rt, spans, 1, 5, rounds)?;
-    }
-    for resources in [10_000usize, 100_000, 1_000_000] {
-        print_empty(rt, resources)?;
-    }
-    Ok(())
+    let (some, few) = ((rounds / 10).max(1), (rounds / 100).max(1));
+    print_batch(rt, 5_120, 1, 0, some)?;
+    print_batch(rt, 5_120, 1, 5, some)?;
+    print_batch(rt, 51_200, 1, 0, few)?;
+    print_batch(rt, 51_200, 1, 5, few)?;
+    print_empty(rt, 10_000)?;
+    print_empty(rt, 100_000)?;
+    print_empty(rt, 1_000_000)
 }
 
 /// Prints how long empty resources take to be read.

@@ -26,15 +26,15 @@ pub struct Spread {
 }
 
 /// How these times spread.
-pub fn spread_of(mut nanos: Vec<u64>) -> Result<Spread> {
-    nanos.sort()?;
+pub fn spread_of(mut nanos: Vec<u64>) -> Spread {
+    nanos.sort_unstable();
     let count = nanos.len();
     let late = count.saturating_sub(count / 1000 + 1);
-    Ok(Spread {
+    Spread {
         p50: nanos.get(count / 2).copied().unwrap_or(0),
         p999: nanos.get(late).copied().unwrap_or(0),
         longest: nanos.last().copied().unwrap_or(0),
-    })
+    }
 }
 
 /// What some rounds came to.
@@ -67,7 +67,7 @@ impl Rounds {
         if self.times.is_empty() {
             return Ok(());
         }
-        let (nanos, sum) = (spread_of(self.times)?.p50, self.sum);
+        let (nanos, sum) = (spread_of(self.times).p50, self.sum);
         let tenths = nanos.saturating_mul(10) / (things as u64).max(1);
         print!(rt; ", {what} {}.{} ns ({sum})", tenths / 10, tenths % 10)?;
         Ok(())

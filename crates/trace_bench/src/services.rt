@@ -115,7 +115,7 @@ pub fn print_came(rt: HostRuntime, ran: Ran, totals: Totals, start: Instant) -> 
     let delivered = handed.saturating_sub(lost);
     let rate = delivered.saturating_mul(1_000) / millis;
     let span = ran.nanos / ended.max(1);
-    let Spread { p50, p999, longest } = spread_of(ran.ends)?;
+    let Spread { p50, p999, longest } = spread_of(ran.ends);
     print!(rt; "{rate} delivered a second, {span} ns a span, ")?;
     print!(rt; "{ended} ended, {delivered} delivered, {lost} lost, ")?;
     print!(rt; "{dropped} dropped, {left} left, {unnamed} unnamed, ")?;
