@@ -324,16 +324,6 @@ made-grows disk =
       end = end ∙ sym (made disk).next;
     }
 
--- A file whose bodies can't go on to the next number ends before it, or has a lower number.
-pub number-below : (front : Disk) (last : SpoolFile)
-    → (is_whole last ≡ false) ⊎ (end_of last ≢ next_number (front ++ last ∷ []))
-    → last.number < next_number (front ++ last ∷ [])
-number-below front last (inl torn) = omega (arith, end-torn last torn, next-last front last)
-number-below front last (inr other) = elim (cases_Bool (is_whole last)) [
-  | inl is ↦ omega (arith, end-whole last is, next-last front last, other)
-  | inr torn ↦ omega (arith, end-torn last torn, next-last front last)
-]
-
 -- ---- a file that is removed
 
 -- It is noted by all files together.

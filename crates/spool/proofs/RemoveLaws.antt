@@ -130,11 +130,6 @@ module _ {D : Type 0} (files : D → Disk) (moment : D → ℕ) (left_at : D →
         grows =
             λ _. subst CanGrow (sym now)
             (grows-without t.oldest t.second t.more w.next (subst CanGrow t.are (was.grows some)));
-        shut = λ none. absurd (go old.growing refl some (sym growing ∙ none));
         rises = subst Rises (sym removed) (rises-without (files old.device) was.rises);
         durable = only;
       }
-    where
-      go : (o : Option Segment) → old.growing ≡ o → IsSome o → old.growing ≡ None → ⊥
-      go None e there none = cc
-      go (Some s) e there none = cc (e, none)

@@ -1,6 +1,6 @@
 -- What a spool knows of its files after each step.
 use Rattle.std.proofs.Common.{◌≡◌, ◌≢◌, inl, inr, refl, sym, ap, ap₂, ◌∙◌, subst, ℕ, ◌+◌, ◌-◌}
-use Rattle.std.proofs.Common.{◌^◌, ◌<◌, min}
+use Rattle.std.proofs.Common.{◌^◌, ◌<◌, ◌≤◌, min}
 use Rattle.std.proofs.Common.{List, [], ◌∷◌, ◌++◌, length, map, arith}
 use Rattle.std.proofs.Common.{length-append}
 use Rattle.std.specs.Prelude.{Option, Some, None, IsSome}
@@ -9,7 +9,7 @@ use Rattle.std.proofs.lemmas.List.{map-append, same_from_push}
 use Rattle.spool.specs.Disks.{SpoolFile, Disk, new_file, grown, grow_last, disk_size}
 use Rattle.spool.specs.Crashes.{Created, Only}
 use Rattle.spool.specs.Records.{bodies, rest}
-use Rattle.spool.specs.Spools.{bodies_in, end_of, done_to, next_number, CanGrow, Rises}
+use Rattle.spool.specs.Spools.{bodies_in, bodies_end, end_of, done_to, next_number, CanGrow, Rises}
 use Rattle.spool.specs.Settled.{segment_of, IsSettled, IsSame, Grows, grown_by}
 use Rattle.spool.specs.declared.state.Segment.{Segment}
 use Rattle.spool.specs.declared.state.Spool.{Spool}
@@ -19,21 +19,12 @@ use Rattle.spool.proofs.DiskLaws.{end-whole}
 use Rattle.spool.proofs.RiseLaws.{rises-grown}
 use Rattle.spool.proofs.PutLaws.{made, made-grows}
 
--- Where the file that grows has bodies, a new one has a higher number.
-pub below-growing : (older : List Segment) (segment : Segment) (front : Disk) (last : SpoolFile)
-    (disk : Disk)
-    → older ++ segment ∷ [] ≡ map segment_of disk → disk ≡ front ++ last ∷ []
-    → segment.number ≢ segment.«end» → last.number < next_number disk
-unfolding end_of
-below-growing older segment front last disk are split other =
-    let at_end : older ++ segment ∷ [] ≡ map segment_of front ++ segment_of last ∷ [] =
-    are ∙ (ap (map segment_of) split ∙ map-append segment_of front (last ∷ [])) in
-    let same : segment ≡ segment_of last =
-    (same_from_push older (map segment_of front) segment (segment_of last) at_end).1 in
-    let number : segment.number ≡ last.number = ap (λ (s : Segment). s.number) same in
-    let ends : segment.«end» ≡ end_of last = ap (λ (s : Segment). s.«end») same in
-    let next : next_number disk ≡ _ = ap next_number split ∙ next-last front last in
-    omega (arith, other, number, ends, next)
+-- A new file has no lower number than the newest one.
+pub below-next : (disk front : Disk) (last : SpoolFile) (next : ℕ) → next ≡ next_number disk
+    → disk ≡ front ++ last ∷ [] → last.number ≤ next
+unfolding end_of bodies_end
+below-next disk front last next is split =
+    omega (arith, is, ap next_number split, next-last front last)
 
 -- A file without bytes ends where it begins.
 pub end-new : (n : ℕ) → end_of (new_file n) ≡ n
@@ -70,21 +61,6 @@ module _ {D : Type 0} (files : D → Disk) (moment : D → ℕ) (left_at : D →
   abbrev after : Disk
   after = files new.device
 
-  -- A new file has the highest number.
-  pub below-next :
-      ((segment : Segment) → old.growing ≡ Some segment → segment.number ≢ segment.«end»)
-      → (front : Disk) (last : SpoolFile) → before ≡ front ++ last ∷ [] → last.number < old.next
-  below-next other front last split = go old.growing refl
-    where
-      go : (o : Option Segment) → old.growing ≡ o → last.number < old.next
-      go None is = subst (λ (n : ℕ). last.number < n) (sym was.next) (was.shut is front last split)
-      go (Some segment) is =
-          subst (λ (n : ℕ). last.number < n) (sym was.next)
-          (below-growing old.older.items segment front last before
-          (ap (λ (o : Option Segment). old.older.items ++ option_to_list o) (sym is) ∙ was.segments)
-          split
-          (other segment is))
-
   -- After a file was made.
   pub settled-made : new.older.items ≡ old.older.items ++ option_to_list old.growing
       → new.growing ≡ Some (record { number = old.next; «end» = old.next; len = 0; rest = 0 })
@@ -113,7 +89,6 @@ module _ {D : Type 0} (files : D → Disk) (moment : D → ℕ) (left_at : D →
         grows =
             λ _. subst CanGrow (sym (now ∙ ap (λ (k : ℕ). before ++ new_file k ∷ []) was.next))
             (made-grows before);
-        shut = λ none. absurd (cc (none, growing));
         rises = same.rises was.rises;
         durable = only;
       }
@@ -130,7 +105,6 @@ module _ {D : Type 0} (files : D → Disk) (moment : D → ℕ) (left_at : D →
         next = g.next_is ∙ ap next_number (sym now);
         size = g.size_is ∙ ap disk_size (sym now);
         grows = λ _. subst CanGrow (sym now) g.still;
-        shut = λ none. absurd (shut old.growing refl some none);
         rises = subst Rises (sym now) (rises-grown before more was.rises);
         durable = only;
       }
@@ -182,8 +156,3 @@ module _ {D : Type 0} (files : D → Disk) (moment : D → ℕ) (left_at : D →
           (growing ∙ (ap (grown_by new.next (length more)) is ∙ segment_is))
           ∙ (sym (map-append segment_of front (grown more last ∷ []))
           ∙ ap (map segment_of) (sym (now ∙ grew)))
-
-      shut : (o : Option Segment) → old.growing ≡ o → IsSome o → new.growing ≡ None → ⊥
-      shut None is there none = cc
-      shut (Some segment) is there none =
-          let some = growing ∙ ap (grown_by new.next (length more)) is in cc (some, none)

@@ -20,8 +20,8 @@ use Rattle.spool.specs.Surveys.{IsSurvey, IsSplit}
 use Rattle.spool.specs.declared.state.Segment.{Segment}
 use Rattle.spool.specs.declared.state.Spool.{Spool}
 use Rattle.spool.specs.declared.opening.Survey.{Survey}
-use Rattle.spool.proofs.DiskLaws.{greatest-append, done-last, size-last}
-use Rattle.spool.proofs.PutLaws.{number-below}
+use Rattle.spool.proofs.DiskLaws.{greatest-append, done-last, size-last, rest-whole}
+use Rattle.spool.proofs.RecordLaws.{read-nil, nil-length}
 use Rattle.spool.proofs.RiseLaws.{rises-push, ends-before}
 
 -- Of no files.
@@ -36,13 +36,8 @@ survey-none survey segments done bodies_are ends size damaged = record {
   ends = ends;
   size = size;
   damaged = damaged;
-  whole = λ front last is. absurd (none front last is);
   rises = tt;
 }
-  where
-    none : (front : Disk) (last : SpoolFile) → [] ≡ front ++ last ∷ [] → ⊥
-    none [] last is = cc
-    none (f ∷ front) last is = cc
 
 -- Where the bodies of a file end, as they are found.
 bodies-end-found : (file : SpoolFile) (n b : ℕ) → file.number ≡ n
@@ -71,10 +66,10 @@ pub survey-more : (disk : Disk) (file : SpoolFile) (old new : Survey) (n b t r d
     → new.done ≡ max old.done d → new.bodies_end ≡ max old.bodies_end (n + b)
     → new.last_end ≡ max old.last_end (n + b + t)
     → new.size ≡ old.size + length file.bytes → new.damaged ≡ old.damaged + r
-    → new.is_whole ≡ (r == 0) → IsSurvey (disk ++ file ∷ []) new
-unfolding done_to damaged_bytes notes_in is_whole
+    → IsSurvey (disk ++ file ∷ []) new
+unfolding done_to damaged_bytes notes_in
 survey-more disk file old new n b t r d was number above count noted left torn segments done
-    bodies_are ends size damaged whole =
+    bodies_are ends size damaged =
     let bodies_end_is : bodies_end file ≡ n + b = bodies-end-found file n b number count in
     let end_is : end_of file ≡ n + b + t = end-found file n b t r number count left torn in
     record {
@@ -115,10 +110,6 @@ survey-more disk file old new n b t r d was number above count noted left torn s
             left,
             sum_by-append (λ (f : SpoolFile). length (rest f.bytes)) disk (file ∷ []),
           );
-      whole = λ front last is.
-          let same : file ≡ last = (same_from_push disk front file last is).1 in
-          whole
-          ∙ (ap (λ (k : ℕ). k == 0) left ∙ ap (λ (f : SpoolFile). length (rest f.bytes) == 0) same);
       rises = rises-push disk file was.rises (omega (arith, was.bodies, number, above));
     }
 
@@ -187,7 +178,7 @@ pub settled-found : {D : Type 0} (files : D → Disk) (moment : D → ℕ)
     (left_at : D → ℕ → Disk → Type 0) (spool : Spool D) (survey : Survey) (disk : Disk)
     → IsSurvey disk survey → files spool.device ≡ disk
     → Only (files spool.device) (left_at spool.device (moment spool.device))
-    → IsSplit survey.segments.items spool.older.items survey.is_whole spool.next spool.growing
+    → IsSplit survey.segments.items spool.older.items spool.next spool.growing
     → spool.done ≡ survey.done → spool.next ≡ max survey.done survey.last_end
     → spool.size ≡ survey.size
     → IsSettled files moment left_at spool
@@ -219,12 +210,15 @@ settled-found files moment left_at spool survey disk found same only split done 
     nothing some = cc
 
     go : (o : Option Segment) → spool.growing ≡ o
-        → IsSplit survey.segments.items spool.older.items survey.is_whole spool.next o
+        → IsSplit survey.segments.items spool.older.items spool.next o
         → IsSettled files moment left_at spool
     go (Some segment) is parts =
         let all : map segment_of (files spool.device) ≡ spool.older.items ++ segment ∷ [] =
         ap (map segment_of) same ∙ (sym found.segments ∙ parts.0) in
         let lf = last-file (files spool.device) spool.older.items segment all in
+        let none : lf.last.bytes ≡ [] =
+        nil-length lf.last.bytes
+        (omega (arith, ap (λ (s : Segment). s.len) (sym lf.is), parts.1)) in
         record {
           segments =
               ap (λ (o : Option Segment). spool.older.items ++ option_to_list o) is ∙ sym all;
@@ -235,10 +229,9 @@ settled-found files moment left_at spool survey disk found same only split done 
             front = lf.front;
             last = lf.last;
             split = lf.split;
-            whole = sym (found.whole lf.front lf.last (sym same ∙ lf.split)) ∙ parts.1;
+            whole = rest-whole lf.last (ap rest none ∙ read-nil.1);
             end = ap (λ (s : Segment). s.«end») (sym lf.is) ∙ (parts.2 ∙ next_is);
           };
-          shut = λ none. absurd (cc (is, none));
           rises = rises;
           durable = only;
         }
@@ -247,25 +240,11 @@ settled-found files moment left_at spool survey disk found same only split done 
           segments =
               ap (λ (o : Option Segment). spool.older.items ++ option_to_list o) is
               ∙ (append-nil spool.older.items
-              ∙ (parts.0 ∙ (found.segments ∙ ap (map segment_of) (sym same))));
+              ∙ (parts ∙ (found.segments ∙ ap (map segment_of) (sym same))));
           done = done_is;
           next = next_is;
           size = size_is;
           grows = λ some. absurd (nothing (subst IsSome is some));
-          shut = λ _ front last at.
-              let all : survey.segments.items ≡ map segment_of front ++ segment_of last ∷ [] =
-              found.segments
-              ∙ (ap (map segment_of) (sym same ∙ at) ∙ map-append segment_of front (last ∷ [])) in
-              let whole : survey.is_whole ≡ is_whole last =
-              found.whole front last (sym same ∙ at) in
-              let next_at : spool.next ≡ next_number (front ++ last ∷ []) =
-              next_is ∙ ap next_number at in
-              let below : last.number < next_number (front ++ last ∷ []) =
-              elim (parts.1 (map segment_of front) (segment_of last) all) [
-                | inl torn ↦ number-below front last (inl (sym whole ∙ torn))
-                | inr other ↦ number-below front last (inr (λ e. other (e ∙ sym next_at)))
-              ] in
-              subst (λ (d : Disk). last.number < next_number d) (sym at) below;
           rises = rises;
           durable = only;
         }

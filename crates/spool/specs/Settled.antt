@@ -45,8 +45,6 @@ pub record IsSettled {D : Type 0} (files : D → Disk) (moment : D → ℕ)
   pub next : spool.next ≡ next_number (files spool.device)
   pub size : spool.size ≡ disk_size (files spool.device)
   pub grows : IsSome spool.growing → CanGrow (files spool.device)
-  pub shut : spool.growing ≡ None → (front : Disk) (last : SpoolFile)
-      → files spool.device ≡ front ++ last ∷ [] → last.number < next_number (files spool.device)
   pub rises : Rises (files spool.device)
   pub durable : Only (files spool.device) (left_at spool.device (moment spool.device))
 

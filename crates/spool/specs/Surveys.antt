@@ -16,14 +16,10 @@ pub record IsSurvey (disk : Disk) (survey : Survey) : Type 0 where
   pub ends : survey.last_end ≡ greatest (map end_of disk)
   pub size : survey.size ≡ disk_size disk
   pub damaged : survey.damaged ≡ damaged_bytes disk
-  pub whole : (front : Disk) (last : SpoolFile) → disk ≡ front ++ last ∷ []
-      → survey.is_whole ≡ is_whole last
   pub rises : Rises disk
 
--- The last segment is taken out, where it is whole and its bodies can go on with this number.
-abbrev pub IsSplit : List Segment → List Segment → Bool → ℕ → Option Segment → Type 0
-IsSplit old new whole next (Some segment) =
-    (old ≡ new ++ segment ∷ []) × (whole ≡ true) × (segment.«end» ≡ next)
-IsSplit old new whole next None =
-    (new ≡ old) × ((front : List Segment) (last : Segment) → old ≡ front ++ last ∷ []
-    → (whole ≡ false) ⊎ (last.«end» ≢ next))
+-- The last segment is taken out, of a file without bytes whose bodies can begin with this number.
+abbrev pub IsSplit : List Segment → List Segment → ℕ → Option Segment → Type 0
+IsSplit old new next (Some segment) =
+    (old ≡ new ++ segment ∷ []) × (segment.len ≡ 0) × (segment.«end» ≡ next)
+IsSplit old new next None = new ≡ old

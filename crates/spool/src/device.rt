@@ -7,9 +7,9 @@ ghost use Rattle.spool.specs.Crashes.{Created, Appended, Removed, After, Only, L
 use crate::DeviceError;
 use std::alloc::Global;
 
-/// A folder with the files of a spool. Each has a number for its name, and the numbers rise: the
-/// oldest file is the first one. Files are made at the end, grow at the end, and are removed from
-/// the front.
+/// A folder with the files of a spool, in the order in which they were made. Each has a number, and
+/// none is below that of an older file. Files are made at the end, grow at the end, and are removed
+/// from the front.
 ///
 /// The clauses say what a folder does that is to be trusted with a spool. No contract can say that
 /// of a real folder: there `is_known` is false, and the clauses are premises. The premises of a
@@ -31,7 +31,7 @@ pub trait Device {
     /// What a crash at this moment may leave, or might have left at an earlier one.
     ghost left_at: { Self → ℕ → List SpoolFile → Type 0 };
 
-    /// The numbers of the files, in rising order, each below 2^63.
+    /// The numbers of the files, the oldest first, each below 2^63.
     ///
     /// # Errors
     ///
@@ -44,7 +44,7 @@ pub trait Device {
         ensures crash { is_known → LeavesOnly moment left_at self.old self.new
             (left_at self.old (moment self.old)) };
 
-    /// The bytes of the file with this index, counted from 0 in the order of the numbers.
+    /// The bytes of the file with this index, counted from 0 for the oldest.
     ///
     /// # Errors
     ///
@@ -56,7 +56,7 @@ pub trait Device {
         ensures crash { is_known → LeavesOnly moment left_at self.old self.new
             (left_at self.old (moment self.old)) };
 
-    /// Makes a file without bytes. Its number is above those of all others.
+    /// Makes a file without bytes, the newest one. Its number is not below that of any other.
     ///
     /// # Errors
     ///
@@ -64,7 +64,7 @@ pub trait Device {
     fn create(&mut self, number: u64) -> Result<(), DeviceError>
         requires small { number < 2 ^ 63 }
         requires newest { is_known → (front : List SpoolFile) (last : SpoolFile)
-            → files self.old ≡ front ++ last ∷ [] → last.number < number }
+            → files self.old ≡ front ++ last ∷ [] → last.number ≤ number }
         ensures made { OnOk result (is_known
             → files self.new ≡ files self.old ++ new_file number ∷ []) }
         ensures crash { is_known → LeavesOnly moment left_at self.old self.new

@@ -31,7 +31,6 @@ pub(crate) struct Survey {
     pub(crate) last_end: u64,
     pub(crate) size: u64,
     pub(crate) damaged: u64,
-    pub(crate) is_whole: bool,
 }
 
 impl Survey {
@@ -46,7 +45,6 @@ impl Survey {
             last_end: 0,
             size: 0,
             damaged: 0,
-            is_whole: false,
         }
     }
 
@@ -84,7 +82,6 @@ impl Survey {
         self.last_end = self.last_end.max(end);
         self.size = size;
         self.damaged = damaged;
-        self.is_whole = records.rest == 0;
         Ok(())
     }
 }
@@ -131,14 +128,14 @@ fn survey_synced<D: Device>(
     Ok((table, survey))
 }
 
-/// Takes the last segment out if it is whole and its bodies can go on with this number.
-fn split_last(segments: &mut Vec<Segment>, is_whole: bool, next: u64) -> Option<Segment>
-    ensures { IsSplit segments.old.items segments.new.items is_whole next result }
+/// Takes the last segment out if its file has no bytes and its bodies can begin with this number.
+fn split_empty(segments: &mut Vec<Segment>, next: u64) -> Option<Segment>
+    ensures { IsSplit segments.old.items segments.new.items next result }
 {
     let Some(last) = segments.last() else {
         return None;
     };
-    if !is_whole || last.end != next {
+    if last.len > 0 || last.end != next {
         return None;
     }
     segments.pop()
@@ -148,7 +145,8 @@ impl<D: Device> Spool<D> {
     /// Opens the files of a device as a spool. Their size may come up to `limit` bytes; a new file
     /// is made once the newest one would pass `segment_limit` bytes. All files are read, one at a
     /// time, and nothing of them is changed: what a crash leaves meanwhile, a crash before might
-    /// have left.
+    /// have left. Nothing is ever added to a file that has bytes now: where a sync failed, what is
+    /// read of it may not be on the disk, and records after a gap are lost.
     ///
     /// # Errors
     ///
@@ -184,7 +182,7 @@ impl<D: Device> Spool<D> {
         };
         let next = survey.done.max(survey.last_end);
         let mut older = survey.segments;
-        let growing = split_last(&mut older, survey.is_whole, next);
+        let growing = split_empty(&mut older, next);
         let spool = Spool {
             device,
             table,

@@ -45,9 +45,7 @@ pub struct Spool<D: Device> {
 /// Whether there is a file that can grow and takes so many more bytes. One without bodies always
 /// does.
 fn has_room(growing: Option<Segment>, len: u64, segment_limit: u64) -> bool
-    ensures there { result ≡ true → IsSome growing }
-    ensures bodies { result ≡ false → (segment : Segment) → growing ≡ Some segment
-        → segment.number ≢ segment.«end» }
+    ensures { result ≡ true → IsSome growing }
 {
     match growing {
         Some(segment) => {

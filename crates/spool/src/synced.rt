@@ -9,7 +9,7 @@ use crate::{Device, SpoolError};
 pub(crate) fn create_synced<D: Device>(device: &mut D, number: u64) -> Result<(), SpoolError>
     requires small { number < 2 ^ 63 }
     requires newest { D.is_known → (front : List SpoolFile) (last : SpoolFile)
-        → D.files device.old ≡ front ++ last ∷ [] → last.number < number }
+        → D.files device.old ≡ front ++ last ∷ [] → last.number ≤ number }
     requires synced { D.is_known → Only (D.files device.old) (D.left_at device.old
         (D.moment device.old)) }
     ensures made { OnOk result (D.is_known

@@ -27,7 +27,7 @@ returns-clause-survey c = λ disk file was number bytes.
     len)
     c.max-self.ensures c.max-self-2.ensures c.max-self-3.ensures
     (c.in-Some.ensures.1 ∙ ap (λ (n : ℕ). c.args.self.now.size + n) len)
-    (c.in-Some-checked_add.ensures.1) refl
+    (c.in-Some-checked_add.ensures.1)
 
 pub returns-then-number-self-clause-overlap : goal.returns-then-number-self-clause-overlap
 returns-then-number-self-clause-overlap c = λ _ disk file is number rises.

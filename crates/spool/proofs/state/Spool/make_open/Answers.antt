@@ -7,8 +7,9 @@ use Rattle.spool.proofs.state.Spool.make_open.Goals as goal
 
 pub create_synced-requires-clause-newest : goal.create_synced-requires-clause-newest
 create_synced-requires-clause-newest g c = λ known.
-    below-next g.D.Device.files g.D.Device.moment g.D.Device.left_at c.args.self.now c.args.self.now
-    (c.requires known) (c.if-has_room.ensures.bodies refl)
+    λ front last split.
+    below-next (g.D.Device.files c.args.self.now.device) front last c.args.self.now.next
+    (c.requires known).next split
 
 pub returns-in_err-create_synced-clause-crash : goal.returns-in_err-create_synced-clause-crash
 returns-in_err-create_synced-clause-crash g c = λ known.
