@@ -70,11 +70,14 @@ def show(crate, words=(), options=()):
         return ran.ends_well()
 
 
-def faults_of(crate, words=(), options=()):
-    """The end of what a run prints, if it doesn't end well."""
+def faults_of(crate, words=(), options=(), status=0):
+    """The end of what a run prints, if the program doesn't end with this status. The toolchain ends
+    with a status at faults of its own too, so it has to say that this one is the program's."""
     with Try(crate, words, options) as ran:
         text = "".join(ran.lines())
-        return [] if ran.ends_well() else [text[-2000:]]
+        has_ended = ran.process.wait() == status
+        is_programs = not status or f"\nrun=ended status={status} " in f"\n{text}"
+        return [] if has_ended and is_programs else [text[-2000:]]
 
 
 class Background(Try):
