@@ -7,6 +7,7 @@ import tempfile
 from lib.harness import TOOL
 from lib.http import HOST
 from lib.origins import browser_origin_rows
+from lib.trace_page import page_rows
 from lib.view import PATH, TRACE, Link, View, tree_body
 
 BROWSING = 300  # seconds after which a browser is given up
@@ -57,3 +58,4 @@ def browser_rows(program):
         faults += [f"the console says {told!r}"] if "CONSOLE" in told else []
         yield "the list in a browser", faults
     yield from browser_origin_rows(program, lambda address: dom_of(path, address))
+    yield from page_rows(program, path)

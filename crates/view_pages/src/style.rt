@@ -23,6 +23,7 @@ a { color: var(--link); }
 code, dd, .took, pre { font-family: ui-monospace, 'DejaVu Sans Mono', monospace; }
 code, dd { font-size: 0.92em; }
 b, dt, dd, h5, td { unicode-bidi: isolate; }
+[hidden] { display: none !important; }
 .rows { list-style: none; margin: 0; padding: 0 0 2rem; }
 .row { display: block; border-bottom: 1px solid var(--line); content-visibility: auto;
   contain-intrinsic-size: auto 30px; scroll-margin-top: 2rem; }
@@ -79,6 +80,9 @@ label { display: grid; gap: 0.1rem; color: var(--soft); font-size: 0.85rem; }
 input, button { font: inherit; color: var(--text); background: var(--back); padding: 0.25rem 0.5rem;
   border: 1px solid var(--soft); border-radius: 5px; }
 .fold { flex: none; padding: 0 0.2rem; border: 0; background: none; cursor: pointer; }
+.fold::before { content: '▾'; } .fold[aria-expanded=false]::before { content: '▸'; }
+.searched .fold { visibility: hidden; }
+.above > details > summary { color: var(--soft); }
 output { color: var(--soft); }
 table { border-collapse: collapse; width: 100%; } th { text-align: left; color: var(--soft);
   font-weight: 500; } td, th { padding: 0.35rem 1.25rem; border-bottom: 1px solid var(--line); }

@@ -1,0 +1,99 @@
+"""The page of a trace in a browser that is driven: what its script finds, and how fast."""
+import json
+
+from lib.devtools import Browser
+from lib.harness import compared, tried
+from lib.http import HOST
+from lib.json_rows import JSON
+from lib.view import Link, View
+
+BEGAN = 1_790_000_000_000_000_000
+# Spans of a trace, and the seconds within which a search in them ends, or else the time within
+# which the same browser opens their page: so a slow machine isn't a fault.
+SEARCHED = ((2_000, 1), (10_000, 5))
+SHOWN = """
+[...document.querySelectorAll('ol.rows > li')].filter((row) => row.getClientRects().length)
+  .map((row) => [Number(row.dataset.row) + 1, row.classList.contains('above')])
+"""
+SEARCH = """
+(async () => {
+  const began = performance.now();
+  const field = document.querySelector('input[type=search]');
+  field.value = %s;
+  field.dispatchEvent(new Event('input'));
+  document.body.getClientRects();
+  await new Promise((done) => requestAnimationFrame(() => setTimeout(done)));
+  return (performance.now() - began) / 1000;
+})()
+"""
+OPENED = "performance.getEntriesByType('navigation')[0].duration / 1000"
+
+
+def span_of(trace, at):
+    """A span of a trace, each of which is under the one with half of its number."""
+    start = BEGAN + at * 1_000_000
+    return {
+        "traceId": f"{trace:032x}", "spanId": f"{at:016x}", "kind": 2, "name": "work",
+        "parentSpanId": f"{at // 2:016x}" if at > 1 else "",
+        "startTimeUnixNano": str(start), "endTimeUnixNano": str(start + 5_000_000),
+        "attributes": [{"key": "cart.id", "value": {"intValue": str(at)}}] + [
+            {"key": f"key.{it}", "value": {"stringValue": f"value {it}"}} for it in range(7)
+        ],
+    }
+
+
+def post_trace(view, trace, size):
+    """Posts a trace of so many spans. Answers the address of its page."""
+    service = {"key": "service.name", "value": {"stringValue": "shop"}}
+    spans = [span_of(trace, at) for at in range(1, size + 1)]
+    group = {"resource": {"attributes": [service]}, "scopeSpans": [{"spans": spans}]}
+    Link(view.port).ask("POST", "/v1/traces", JSON, json.dumps({"resourceSpans": [group]}).encode())
+    return f"http://{HOST}:{view.port}/trace/{trace:032x}"
+
+
+def above(at):
+    """The spans above this one."""
+    return above(at // 2) + [at // 2] if at > 1 else []
+
+
+def shown_in(page):
+    """The spans whose rows are shown, and those of them that are shown for what is under them."""
+    rows = page.value(SHOWN)
+    return [at for at, is_above in rows if not is_above], [at for at, is_above in rows if is_above]
+
+
+def found_rows(page, address):
+    """What a search finds, and the rows above that."""
+    page.open(address)
+    for text, found in (
+        ("cart.id=1711", [1711]), ("cart.id: 1711", [1711]), ("cart.id 1711", [1711]),
+        (" Cart.ID = 1711 ", [1711]), ("cart.id=1711 key.0", [1711]), ("cart.id=2001", []),
+        ("cart.id1711", []),
+    ):
+        page.value(SEARCH % json.dumps(text))
+        wanted = found, above(found[0]) if found else []
+        yield f"a search for {text!r}", shown_in(page), wanted
+        count = page.value("document.querySelector('output').textContent")
+        yield f"the count of {text!r}", count, f"{len(found)} of 2000 spans"
+
+
+def time_row(page, address, size, seconds):
+    """How long the first search takes, in which the texts of all spans are read."""
+
+    def faults():
+        page.open(address)
+        most = max(seconds, page.value(OPENED))
+        found = page.value(SEARCH % "'cart.id=1711'")
+        return [] if found <= most else [f"{found:.1f} s, more than {most:.1f}"]
+
+    return tried(f"a search in {size} spans", faults)
+
+
+def page_rows(program, browser):
+    """All rows of the page of a trace."""
+    with View(program) as view, Browser(browser) as page:
+        addresses = {size: post_trace(view, size, size) for size, _ in SEARCHED}
+        page.resize(1_400)
+        yield from compared(found_rows(page, addresses[2_000]))
+        for size, seconds in SEARCHED:
+            yield time_row(page, addresses[size], size, seconds)
