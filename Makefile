@@ -1,13 +1,13 @@
 .DEFAULT_GOAL := help
-.PHONY: help run tour quick ports test audit docs times install check format clean
+.PHONY: help run tour quick ports test audit docs times install install-unproved check format clean
 
 PREFIX ?= $(HOME)/.local
 PORT ?= 4318
 
 help: ## List the targets
-	@grep -E '^[a-z]+:.*##' Makefile | sed -E 's/:.*## /: /'
+	@grep -E '^[a-z-]+:.*##' Makefile | sed -E 's/:.*## /: /'
 
-run: ## Build two programs without their proofs, and show a trace; PORT=4318 is the port (one and a half to two minutes)
+run: ## Build trace-view without its proof, and show a trace in it; PORT=4318 is the port (a minute or two; again, seconds)
 	@tools/run-first $(PORT)
 
 tour: ## Build seven programs without their proofs and run them, each with a word on what it shows
@@ -51,8 +51,11 @@ docs: ## Compare the documents with the sources, and write out/DEFINITIONS.md an
 times: ## The gate, and what each crate took of the processors
 	tools/times $(MAKE) test
 
-install: ## Put the programs that make test left built into PREFIX/bin; PREFIX=~/.local is the default
-	tools/install '$(PREFIX)/bin'
+install: ## Put the programs that make test left built into PREFIX/bin, or PROGRAMS="trace-view otlp-relay", proved first; PREFIX=~/.local is the default
+	tools/install '$(PREFIX)/bin' $(PROGRAMS)
+
+install-unproved: ## Put trace-view and otlp-relay into PREFIX/bin, built without their proofs (a few minutes)
+	tools/install '$(PREFIX)/bin' --unproved $(or $(PROGRAMS),trace-view otlp-relay)
 
 check: ## Prove every crate over what earlier checks kept
 	rt all check
