@@ -17,6 +17,7 @@ START = (
     "[os.dup2(end, at) for at, end in enumerate(ends, 3)]; "
     "os.execv(sys.argv[3], sys.argv[3:])"
 )
+KEY_CODES = {"Enter": 13}  # of keys whose name isn't what they write
 WORDS = ["--headless", "--no-sandbox", "--disable-gpu", "--remote-debugging-pipe"]
 
 
@@ -77,11 +78,12 @@ class Browser:
             self.events.append(found)
 
     def open(self, address):
-        """Opens a page, and waits until it is read."""
-        self.events = []
-        self.ask("Page.navigate", url=address)
-        while not any(it["method"] == "Page.loadEventFired" for it in self.events):
-            self.events.append(self.message())
+        """Opens a page, after an empty one, so that it is read anew, and waits until it is read."""
+        for it in ("about:blank", address):
+            self.events = []
+            self.ask("Page.navigate", url=it)
+            while not any(event["method"] == "Page.loadEventFired" for event in self.events):
+                self.events.append(self.message())
 
     def value(self, script):
         """The value of an expression in the page, or what it comes to where that is a promise."""
@@ -108,8 +110,8 @@ class Browser:
 
     def press(self, key, text=""):
         """Presses a key, which may write a text, and lets it go."""
-        names = {"key": key, "windowsVirtualKeyCode": 13 if key == "Enter" else ord(key[0].upper())}
-        self.ask("Input.dispatchKeyEvent", type="keyDown", text=text, **names)
+        names = {"key": key, "windowsVirtualKeyCode": KEY_CODES.get(key, 0)}
+        self.ask("Input.dispatchKeyEvent", type="keyDown", text=text or key, **names)
         self.ask("Input.dispatchKeyEvent", type="keyUp", **names)
 
     def picture(self):

@@ -1,4 +1,5 @@
-"""The page of a trace in a browser that is driven: what its script finds, and how fast."""
+"""The page of a trace in a browser that is driven: what its script finds and how fast, what it folds
+and opens, and what keys do."""
 import json
 
 from lib.devtools import Browser
@@ -26,6 +27,8 @@ SEARCH = """
   return (performance.now() - began) / 1000;
 })()
 """
+FOCUS = "Number(document.activeElement.closest('li.row')?.dataset.row ?? -1) + 1"
+COPY = "document.querySelector('%s .copy').click(), getSelection().toString()"
 OPENED = "performance.getEntriesByType('navigation')[0].duration / 1000"
 
 
@@ -53,7 +56,7 @@ def post_trace(view, trace, size):
 
 def above(at):
     """The spans above this one."""
-    return above(at // 2) + [at // 2] if at > 1 else []
+    return [*above(at // 2), at // 2] if at > 1 else []
 
 
 def shown_in(page):
@@ -77,6 +80,59 @@ def found_rows(page, address):
         yield f"the count of {text!r}", count, f"{len(found)} of 2000 spans"
 
 
+def press(page, name):
+    """Presses a button of the page."""
+    page.value(f"[...document.querySelectorAll('button')].find((it) => it.textContent === '{name}')"
+               ".click()")
+
+
+def open_in(page):
+    """How many rows are open."""
+    return page.value("document.querySelectorAll('details[open]').length")
+
+
+def fold_rows(page, address):
+    """What is shown of a long trace when it comes, and after each button; and identifiers that are
+    copied."""
+    page.open(address)
+    yield "a long trace comes folded", shown_in(page), ([1, 2, 4, 5, 3, 6, 7], [])
+    press(page, "Open all")
+    yield "open all", open_in(page), 7
+    wanted = address[-32:], f"{1:016x}"
+    copied = page.value(COPY % "h1"), page.value(COPY % ".panel")
+    yield "identifiers that are copied", copied, wanted
+    press(page, "Show all")
+    yield "show all", len(shown_in(page)[0]), 2_000
+    press(page, "Close all")
+    yield "close all", open_in(page), 0
+    press(page, "Fold all")
+    yield "fold all", shown_in(page), ([1], [])
+    page.open(f"{address}#s-{1711:016x}")
+    wanted = set(above(1711)) | {1711}
+    yield "a row that the address names", wanted - set(shown_in(page)[0]), set()
+
+
+def key_rows(page, address):
+    """What each key does."""
+    page.open(address)
+    found = []
+    for key in "jjjkk":
+        page.press(key)
+        found.append(page.value(FOCUS))
+    yield "the keys j and k", found, [1, 2, 4, 2, 1]
+    page.press("Enter", "\r")
+    yield "the key enter", open_in(page), 1
+    line = "[...document.querySelectorAll('header p')].at(-1).getClientRects().length > 0"
+    found = [page.value(line)]
+    page.press("?")
+    yield "the key ?", [*found, page.value(line)], [False, True]
+    for key in ("/", *"cart.id=1711"):
+        page.press(key)
+    yield "the key / and what is typed then", shown_in(page), ([1711], above(1711))
+    page.press("Enter", "\r")
+    yield "enter in the search", page.value(FOCUS), 1
+
+
 def time_row(page, address, size, seconds):
     """How long the first search takes, in which the texts of all spans are read."""
 
@@ -94,6 +150,8 @@ def page_rows(program, browser):
     with View(program) as view, Browser(browser) as page:
         addresses = {size: post_trace(view, size, size) for size, _ in SEARCHED}
         page.resize(1_400)
-        yield from compared(found_rows(page, addresses[2_000]))
+        for some in (found_rows, fold_rows, key_rows):
+            yield from compared(some(page, addresses[2_000]))
+        yield "what the console says", [str(it) for it in page.told()]
         for size, seconds in SEARCHED:
             yield time_row(page, addresses[size], size, seconds)

@@ -38,7 +38,7 @@ b, dt, dd, h5, td { unicode-bidi: isolate; }
 .row:target > details > summary { outline: 2px solid var(--link); outline-offset: -2px; }
 .c0 { --c: var(--c0); } .c1 { --c: var(--c1); } .c2 { --c: var(--c2); } .c3 { --c: var(--c3); }
 .c4 { --c: var(--c4); } .c5 { --c: var(--c5); } .c6 { --c: var(--c6); } .c7 { --c: var(--c7); }
-summary { min-height: 29px; cursor: pointer; list-style: none; }
+summary { min-height: 29px; cursor: pointer; list-style: none; scroll-margin-top: 2rem; }
 summary::-webkit-details-marker { display: none; }
 summary:hover, details[open] > summary { background: var(--card); }
 summary:focus-visible { outline: 2px solid var(--link); outline-offset: -2px; }
@@ -82,6 +82,8 @@ input, button { font: inherit; color: var(--text); background: var(--back); padd
 .fold { flex: none; padding: 0 0.2rem; border: 0; background: none; cursor: pointer; }
 .fold::before { content: '▾'; } .fold[aria-expanded=false]::before { content: '▸'; }
 .searched .fold { visibility: hidden; }
+.copy { margin-left: 0.5rem; padding: 0 0.35rem; font: 0.75rem/1.5 system-ui, sans-serif; }
+.copy::before { content: 'copy'; } .copy.done::before { content: 'copied'; }
 .above > details > summary { color: var(--soft); }
 output { color: var(--soft); }
 table { border-collapse: collapse; width: 100%; } th { text-align: left; color: var(--soft);

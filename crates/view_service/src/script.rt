@@ -1,12 +1,14 @@
 //! The script of the pages.
 
 /// The script that `/view.js` serves. On the page of a trace a field searches the spans, and shows
-/// with each span that it finds those above it; a mark at a span folds those under it. No page
-/// needs it.
+/// with each span that it finds those above it; a mark at a span folds those under it, and a long
+/// trace comes folded below its third level; identifiers can be copied, and keys go to the search
+/// and from row to row. No page needs it.
 pub(crate) const SCRIPT: &str = "'use strict';
 (() => {
   const list = document.querySelector('ol.rows');
   if (!list) return;
+  const LONG = 300; // spans above which a trace is folded below its third level
   const rows = [...list.children];
   const levels = rows.map((row) => Number(row.getAttribute('aria-level')));
   const parents = []; // of each row the place of the row that it is under, or -1
@@ -18,6 +20,7 @@ pub(crate) const SCRIPT: &str = "'use strict';
   });
   const hasChild = (at) => parents[at + 1] === at;
   const folded = new Set();
+  const opened = new Set();
   const words = [];
 
   // A text as the search sees it: `cart.id=4711`, `cart.id: 4711` and `cart.id 4711` are the same.
@@ -74,46 +77,101 @@ pub(crate) const SCRIPT: &str = "'use strict';
     marks[at].setAttribute('aria-expanded', String(!isFolded));
   };
 
-  const buttonOf = (text, press) => {
-    const button = document.createElement('button');
+  const elementOf = (tag, name, ...parts) => {
+    const element = document.createElement(tag);
+    element.className = name;
+    element.append(...parts);
+    return element;
+  };
+
+  const buttonOf = (name, text, press) => {
+    const button = elementOf('button', name, text);
     button.type = 'button';
-    button.textContent = text;
     button.addEventListener('click', press);
     return button;
   };
 
+  // A button that copies a text by selecting it: a page may write to the clipboard itself only
+  // where it comes from this machine or by https.
+  const copierOf = (text) => {
+    const copier = buttonOf('copy', '', () => {
+      getSelection().setBaseAndExtent(text, 0, text, text.length);
+      copier.classList.toggle('done', document.execCommand('copy'));
+    });
+    copier.setAttribute('aria-label', 'copy this identifier');
+    return copier;
+  };
+
   const marks = rows.map((row, at) => {
     if (!hasChild(at)) return null;
-    const mark = buttonOf('', (event) => {
+    const mark = buttonOf('fold', '', (event) => {
       event.preventDefault();
       fold(at, !folded.has(at));
       show();
     });
-    mark.className = 'fold';
     mark.setAttribute('aria-label', 'spans under this one');
     mark.setAttribute('aria-expanded', 'true');
     row.querySelector('.label').prepend(mark);
     return mark;
   });
 
-  const search = document.createElement('input');
+  const search = elementOf('input', '');
   search.type = 'search';
   search.placeholder = 'any text, or name=value';
   search.size = 24;
-  const label = document.createElement('label');
-  label.append('Search', search);
-  const foldAll = buttonOf('', () => {
+  const foldAll = buttonOf('', '', () => {
     const isFolded = folded.size === 0;
     rows.forEach((_, at) => hasChild(at) && fold(at, isFolded));
     show();
   });
-  const count = document.createElement('output');
-  const form = document.createElement('form');
+  const openAll = buttonOf('', 'Open all', () => {
+    const isOpen = opened.size === 0;
+    rows.forEach((row) => {
+      if (!row.hidden || !isOpen) row.firstChild.open = isOpen;
+    });
+  });
+  const showKeys = () => {
+    keyLine.hidden = !keyLine.hidden;
+  };
+  const keyLine = elementOf('p', '', 'Keys: / goes to the search, j to the next row, k to the one '
+    + 'before, enter opens a row or closes it, ? shows or hides this line');
+  keyLine.hidden = true;
+  const count = elementOf('output', '');
+  const form = elementOf('form', '', elementOf('label', '', 'Search', search), foldAll, openAll,
+    buttonOf('', 'Keys', showKeys), count);
   form.setAttribute('role', 'search');
-  form.append(label, foldAll, count);
-  document.querySelector('header').append(form);
+  document.querySelector('header').append(form, keyLine);
   search.addEventListener('input', show);
-  form.addEventListener('submit', (event) => event.preventDefault());
+  form.addEventListener('submit', (event) => {
+    event.preventDefault();
+    search.blur();
+    move(1);
+  });
+  list.addEventListener('toggle', ({ target }) => {
+    if (target.open) opened.add(target);
+    else opened.delete(target);
+    openAll.textContent = opened.size ? 'Close all' : 'Open all';
+    const id = target.querySelector('.panel dd');
+    if (!id.querySelector('button')) id.append(copierOf(id.firstChild));
+  }, true);
+
+  // Goes from the row that has the focus to the next one that is shown, or to the one before.
+  const move = (step) => {
+    let at = rows.indexOf(document.activeElement.closest('li.row'));
+    do at += step; while (rows[at]?.hidden);
+    rows[at]?.querySelector('summary').focus();
+  };
+
+  const keys = new Map([
+    ['/', () => search.focus()], ['j', () => move(1)], ['k', () => move(-1)], ['?', showKeys],
+  ]);
+  addEventListener('keydown', (event) => {
+    const press = keys.get(event.key);
+    const isText = event.ctrlKey || event.altKey || event.metaKey || event.target === search;
+    if (!press || isText) return;
+    event.preventDefault();
+    press();
+  });
 
   // Shows the row that the address names.
   const reveal = () => {
@@ -124,6 +182,11 @@ pub(crate) const SCRIPT: &str = "'use strict';
     if (row) row.scrollIntoView();
   };
   addEventListener('hashchange', reveal);
+  if (rows.length > LONG) {
+    levels.forEach((level, at) => level === 3 && hasChild(at) && fold(at, true));
+  }
+  const trace = document.querySelector('h1 code');
+  trace.after(copierOf(trace.firstChild));
   reveal();
 })();
 ";
