@@ -11,3 +11,4 @@ pub mod StateLaws
 pub mod ScanLaws
 pub mod Moments
 pub mod MemoryLaws
+pub mod RollLaws

@@ -1,5 +1,5 @@
 -- What a note leaves, by the steps that it takes.
-use Rattle.std.proofs.Common.{◌≡◌, inl, inr, sym, ap, ◌∙◌, subst, ℕ, ◌+◌}
+use Rattle.std.proofs.Common.{◌≡◌, ◌⊎◌, inl, inr, sym, ap, ◌∙◌, subst, ℕ, ◌+◌, ◌<◌}
 use Rattle.std.proofs.Common.{◌≤◌, min, max}
 use Rattle.std.proofs.Common.{List, [], ◌∷◌, ◌++◌, length, take, arith}
 use Rattle.std.proofs.lemmas.List.Elements.{filter_map-append}
@@ -82,18 +82,19 @@ left-by-removal disk number after left room waits size rises no_larger = record 
 
 -- There is room for a note.
 pub note-room : (disk : Disk) (number : ℕ) (more : List ℕ) (size : ℕ)
-    → IsNote disk number more size → disk_size disk + note_size ≤ reserved disk
+    → IsNote disk number more size → done_to disk < number
+    → disk_size disk + note_size ≤ reserved disk
 unfolding reserved
-note-room disk number more size note = omega (arith, note.later, note.there)
+note-room disk number more size note later = omega (arith, later, note.there)
 
 -- With it nothing more is reserved.
 pub note-reserved : (disk : Disk) (number : ℕ) (more : List ℕ) (size : ℕ)
-    → IsNote disk number more size → (left : Disk)
+    → IsNote disk number more size → done_to disk < number → (left : Disk)
     → disk_size left ≤ disk_size disk + note_size → next_number left ≡ next_number disk
     → done_to left ≡ number → reserved left ≤ reserved disk
 unfolding reserved
-note-reserved disk number more size note left sized next done =
-    omega (arith, sized, next, done, note.later, note.there)
+note-reserved disk number more size note later left sized next done =
+    omega (arith, sized, next, done, later, note.there)
 
 -- What is left while a note is written, and while files are removed after it.
 pub noted-leaves : {D : Type 0} (moment : D → ℕ) (left_at : D → ℕ → Disk → Type 0)
@@ -111,6 +112,12 @@ noted-leaves moment left_at old mid new disk after number noted is room first wa
     (and_then moment left_at old mid new (LeftByNote disk noted) first
     (weaker moment left_at mid new (IsNoLarger after) (LeftByNote disk noted)
     (λ left it. left-by-removal disk noted after left room waits sized rises it) second))
+
+-- What is left while a note is written.
+pub record CutNote (disk : Disk) (number : ℕ) (left : Disk) : Type 0 where
+  pub waits : (waiting left ≡ waiting disk) ⊎ (waiting left ≡ numbered_from number (waiting disk))
+  pub size : disk_size left ≤ disk_size disk + note_size
+  pub rises : Rises left
 
 module _ (disk now : Disk) (rises : Rises disk) (same : IsSame disk now) (can : CanGrow now)
     (number : ℕ) (more : List ℕ) (size : ℕ) (note : IsNote disk number more size) where
@@ -131,8 +138,8 @@ module _ (disk now : Disk) (rises : Rises disk) (same : IsSame disk now) (can : 
   whole = note-whole now number can note.fits note.small from there
 
   -- What is left while the note is written.
-  pub left-by-note : (left : Disk) → Appended more now left → LeftByNote disk number left
-  left-by-note left (k, at) =
+  pub cut-by-note : (left : Disk) → Appended more now left → CutNote disk number left
+  cut-by-note left (k, at) =
       let left_is : left ≡ grow_last (take k (note_bytes number)) now =
       at ∙ ap (λ (l : List ℕ). grow_last (take k l) now) note.written in
       record {
@@ -140,27 +147,30 @@ module _ (disk now : Disk) (rises : Rises disk) (same : IsSame disk now) (can : 
           | inl before ↦ inl (ap waiting left_is ∙ (before ∙ same-waiting disk now same))
           | inr after ↦ inr (ap waiting left_is ∙ (after ∙ waits))
         ];
-        within =
+        size =
             omega (
               arith,
               ap disk_size left_is,
               note-size now number can note.fits note.small from there k,
               same.size,
-              note-room disk number more size note,
             );
         rises = subst Rises (sym at) (rises-grown now (take k more) (same.rises rises));
       }
 
   -- So is what is left from the beginning on.
-  pub note-leaves : {D : Type 0} (moment : D → ℕ) (left_at : D → ℕ → Disk → Type 0)
-      (old mid new : D) → LeavesOnly moment left_at old mid (IsSame disk)
+  pub note-leaves : done_to disk < number → {D : Type 0} (moment : D → ℕ)
+      (left_at : D → ℕ → Disk → Type 0) (old mid new : D)
+      → LeavesOnly moment left_at old mid (IsSame disk)
       → LeavesOnly moment left_at mid new (Appended more now)
       → LeavesOnly moment left_at old new (LeftByNote disk number)
-  note-leaves moment left_at old mid new first second =
+  note-leaves later moment left_at old mid new first second =
+      let room = note-room disk number more size note later in
       and_then moment left_at old mid new (LeftByNote disk number)
       (weaker moment left_at old mid (IsSame disk) (LeftByNote disk number)
       (λ left is. left-by-same disk left number rises is) first)
-      (weaker moment left_at mid new (Appended more now) (LeftByNote disk number) left-by-note
+      (weaker moment left_at mid new (Appended more now) (LeftByNote disk number)
+      (λ left at. let cut = cut-by-note left at in
+      record { waits = cut.waits; within = omega (arith, cut.size, room); rises = cut.rises })
       second)
 
   -- The files grow as the spool then knows them.

@@ -1,11 +1,11 @@
 -- What the files of a spool mean once bodies were put, a delivery was noted, a file was made or one
 -- was removed, and what a crash leaves meanwhile.
-use Rattle.std.proofs.Common.{◌≡◌, ◌⊎◌, ◌≢◌, inl, inr, refl, sym, ap, ap₂, ◌∙◌, ℕ, zero, suc}
+use Rattle.std.proofs.Common.{◌≡◌, ◌⊎◌, inl, inr, refl, sym, ap, ap₂, ◌∙◌, ℕ, zero, suc}
 use Rattle.std.proofs.Common.{◌+◌, ◌-◌, ◌^◌}
 use Rattle.std.proofs.Common.{◌<◌, ◌≤◌, max, min, List, [], ◌∷◌, ◌++◌, length, take, drop, map}
-use Rattle.std.proofs.Common.{arith, true, false}
+use Rattle.std.proofs.Common.{arith, true}
 use Rattle.std.specs.Prelude.{flat_map}
-use Rattle.std.proofs.lemmas.Bool.{cases_lt, cases_Bool}
+use Rattle.std.proofs.lemmas.Bool.{cases_lt}
 use Rattle.std.proofs.lemmas.List.{append-nil, drop_all, take-map}
 use Rattle.std.proofs.lemmas.List.{length-take, length-map}
 use Rattle.std.proofs.lemmas.List.Sums.{sum_by-append}
@@ -17,15 +17,15 @@ use Rattle.spool.specs.Records.{record_bytes, note_size}
 use Rattle.spool.specs.Spools.{bodies_in, notes_in, is_whole, end_of, greatest, done_to}
 use Rattle.spool.specs.Spools.{next_number}
 use Rattle.spool.specs.Spools.{waiting_in, waiting_from, waiting, numbered_from, CanGrow}
-use Rattle.spool.specs.Spools.{LeftByPut, Rises}
-use Rattle.spool.specs.Settled.{IsSame, last_done}
+use Rattle.spool.specs.Spools.{Rises}
+use Rattle.spool.specs.Settled.{IsSame, last_done, LeftByAdding}
 use Rattle.spool.proofs.RecordLaws.{read-nil, read-spelled, read-cut}
 use Rattle.spool.proofs.RecordLaws.{length-record}
 use Rattle.spool.proofs.ContentLaws.{bodies-put, notes-put, notes-note}
 use Rattle.spool.proofs.ContentLaws.{length-enumerate}
 use Rattle.spool.proofs.DiskLaws.{greatest-append, grow-front, done-last, next-last, waiting-last}
 use Rattle.spool.proofs.DiskLaws.{size-last, numbered-waiting}
-use Rattle.spool.proofs.DiskLaws.{rest-whole, end-whole, end-torn, grew, grew-whole}
+use Rattle.spool.proofs.DiskLaws.{rest-whole, end-whole, grew, grew-whole}
 use Rattle.spool.proofs.RiseLaws.{rises-made, rises-grown}
 
 -- ---- numbers
@@ -78,7 +78,8 @@ module _ (disk : Disk) (bs : List (List ℕ)) (can : CanGrow disk)
 
   -- What a crash leaves while the records are written.
   pub put-cut : (limit k : ℕ) → disk_size disk + length (spelled (put_contents bs)) ≤ limit
-      → Rises disk → LeftByPut disk bs limit (grow_last (take k (spelled (put_contents bs))) disk)
+      → Rises disk
+      → LeftByAdding disk bs limit (grow_last (take k (spelled (put_contents bs))) disk)
   unfolding waiting
   put-cut limit k fits rises =
       let more = take k (spelled (put_contents bs)) in

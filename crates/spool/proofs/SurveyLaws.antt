@@ -6,7 +6,7 @@ use Rattle.std.proofs.Common.{cond, get_or}
 use Rattle.std.specs.Prelude.{Option, Some, None, IsSome, ◌==◌, slice_get}
 use Rattle.std.specs.Option.{option_to_list}
 use Rattle.std.proofs.lemmas.Bool.{cases_lt}
-use Rattle.std.proofs.lemmas.List.{append-nil, map-append, same_from_push, get_or-map, length-map}
+use Rattle.std.proofs.lemmas.List.{append-nil, map-append, get_or-map, length-map}
 use Rattle.std.proofs.lemmas.List.Sums.{sum_by-append}
 use Rattle.spool.specs.Disks.{SpoolFile, Disk, disk_size, file_numbers}
 use Rattle.spool.specs.Crashes.{Only}

@@ -1,8 +1,8 @@
 -- What a spool knows of its files between two calls. (profile)
 use Rattle.std.specs.Prelude.{◌≡◌, ℕ, ◌+◌, ◌-◌, ◌*◌, ◌<◌, ◌≤◌, List, [], ◌∷◌, ◌++◌, length, map}
-use Rattle.std.specs.Prelude.{Option, Some, None, IsSome, min, ◌^◌}
+use Rattle.std.specs.Prelude.{Option, Some, None, IsSome, min, max, ◌^◌, ◌==◌, if◌then◌else◌, take}
 use Rattle.std.specs.Option.{option_to_list}
-use Rattle.std.specs.List.{AllByRecursion}
+use Rattle.std.specs.List.{AllByRecursion, enumerate_from}
 use Rattle.spool.specs.Disks.{SpoolFile, Disk, grown, grow_last, disk_size}
 use Rattle.spool.specs.Crashes.{Only}
 use Rattle.spool.specs.Spools.{end_of, done_to, next_number, waiting, waiting_from, CanGrow}
@@ -67,6 +67,36 @@ pub record Grows (disk : Disk) (more : List ℕ) (next done size : ℕ) : Type 0
   pub still : CanGrow (grow_last more disk)
   pub end : end_of (grown more can.last) ≡ next
 
+-- What a crash leaves while the files are rolled over: the same bodies wait, the files are larger
+-- by
+-- a note at most, and their numbers rise if they did.
+pub record IsRolled (disk left : Disk) : Type 0 where
+  pub waits : waiting left ≡ waiting disk
+  pub size : disk_size left ≤ disk_size disk + note_size
+  pub rises : Rises disk → Rises left
+
+-- There is room for so many bytes of so many bodies, after which the files have this size, which is
+-- within the limit, and this next number.
+pub record IsRoom (disk : Disk) (len count size next limit : ℕ) : Type 0 where
+  pub next_is : next ≡ next_number disk + count
+  pub size_is : size ≡ disk_size disk + len
+  pub within : size + note_size * (next - done_to disk) ≤ limit
+
+-- What a crash leaves while records of bodies are added: what waited, and some of the bodies, the
+-- first ones, within the limit.
+pub record LeftByAdding (disk : Disk) (bodies : List (List ℕ)) (limit : ℕ) (left : Disk)
+    : Type 0 where
+  pub count : ℕ
+  pub few : count ≤ length bodies
+  pub waits : waiting left ≡ waiting disk ++ enumerate_from (next_number disk) (take count bodies)
+  pub within : disk_size left ≤ limit
+  pub rises : Rises left
+
+-- No body of a file waits, where those with lower numbers were delivered.
+abbrev pub IsEnded : ℕ → Segment → Type 0
+IsEnded done segment =
+    segment.«end» ≤ max done segment.number + (if segment.rest == 0 then 0 else 1)
+
 -- These bytes are the records of bodies, after which the files have this next number and this
 -- size, which is within the limit.
 pub record IsPut (disk : Disk) (bodies : List (List ℕ)) (more : List ℕ) (next size limit : ℕ)
@@ -77,10 +107,10 @@ pub record IsPut (disk : Disk) (bodies : List (List ℕ)) (more : List ℕ) (nex
   pub size_is : size ≡ disk_size disk + length more
   pub within : size + note_size * (next - done_to disk) ≤ limit
 
--- These bytes are the record of a note that all bodies below this number were delivered, which was
--- not noted before, and after which the files have this size.
+-- These bytes are the record of a note that all bodies below this number were delivered, with which
+-- no lower number is noted than before, and after which the files have this size.
 pub record IsNote (disk : Disk) (number : ℕ) (more : List ℕ) (size : ℕ) : Type 0 where
-  pub later : done_to disk < number
+  pub later : done_to disk ≤ number
   pub there : number ≤ next_number disk
   pub small : number < 2 ^ 64
   pub fits : IsContent (note_content number)
@@ -101,6 +131,11 @@ IsNoted disk = last_done disk ≡ done_to disk
 abbrev pub FirstIsDone : List Segment → ℕ → Type 0
 FirstIsDone segments done =
     (first : Segment) × (others : List Segment) × (segments ≡ first ∷ others) × (first.«end» ≤ done)
+
+-- The first segment, if there is one, has a body that is not noted as delivered.
+abbrev pub FirstIsLeft : List Segment → ℕ → Type 0
+FirstIsLeft segments done =
+    (first : Segment) (others : List Segment) → segments ≡ first ∷ others → done < first.«end»
 
 -- The same bodies wait, the files are no larger, and their numbers rise if they did.
 pub record IsNoLarger (disk left : Disk) : Type 0 where

@@ -110,16 +110,23 @@ HasNoRoom disk bodies limit =
     + note_size * (next_number disk + length bodies - done_to disk))
     ⊎ ((2 ^ 63 ≤ next_number disk + length bodies) ⊎ IsOneTooLong bodies)
 
+-- Bodies never have room: also where no body waits they would pass the limit, with notes of their
+-- deliveries and the note that no other waits; or there are too many numbers; or one is too long.
+abbrev pub HasNeverRoom : Disk → List (List ℕ) → ℕ → Type 0
+HasNeverRoom disk bodies limit =
+    (limit < note_size + length (spelled (map body_content bodies)) + note_size * length bodies)
+    ⊎ ((2 ^ 63 ≤ next_number disk + length bodies) ⊎ IsOneTooLong bodies)
+
 -- ---- crashes
 
 -- What a crash during a put leaves: what waited, and some of the bodies, the first ones, none, some
 -- or all, each of them whole, with the numbers that they are given. The files stay within the
--- limit, if they were, and their numbers rise.
+-- limit, or are larger by a note than they were, and their numbers rise.
 pub record LeftByPut (disk : Disk) (bodies : List (List ℕ)) (limit : ℕ) (left : Disk) : Type 0 where
   pub count : ℕ
   pub few : count ≤ length bodies
   pub waits : waiting left ≡ waiting disk ++ enumerate_from (next_number disk) (take count bodies)
-  pub within : disk_size left ≤ max limit (disk_size disk)
+  pub within : disk_size left ≤ max limit (disk_size disk + note_size)
   pub rises : Rises left
 
 -- What a crash leaves while it is noted that all bodies with lower numbers were delivered: what

@@ -1,8 +1,8 @@
 -- What is found in the files of a spool as it is opened. (profile)
-use Rattle.std.specs.Prelude.{◌≡◌, ◌≢◌, ◌⊎◌, ℕ, List, [], ◌∷◌, ◌++◌, map, Bool, true, false, Option}
+use Rattle.std.specs.Prelude.{◌≡◌, ℕ, List, [], ◌∷◌, ◌++◌, map, Option}
 use Rattle.std.specs.Prelude.{Some, None}
-use Rattle.spool.specs.Disks.{SpoolFile, Disk, disk_size}
-use Rattle.spool.specs.Spools.{is_whole, bodies_end, end_of, greatest, done_to}
+use Rattle.spool.specs.Disks.{Disk, disk_size}
+use Rattle.spool.specs.Spools.{bodies_end, end_of, greatest, done_to}
 use Rattle.spool.specs.Spools.{damaged_bytes, Rises}
 use Rattle.spool.specs.Settled.{segment_of}
 use Rattle.spool.specs.declared.state.Segment.{Segment}

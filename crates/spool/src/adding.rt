@@ -6,41 +6,15 @@ ghost use Rattle.spool.specs.Disks.{disk_size};
 ghost use Rattle.spool.specs.Crashes.{LeavesOnly};
 ghost use Rattle.spool.specs.Records.{note_size};
 ghost use Rattle.spool.specs.Spools.{waiting, next_number, reserved, numbered_from};
-ghost use Rattle.spool.specs.Spools.{LeftByPut, LeftByNote, HasNoRoom};
-ghost use Rattle.spool.specs.Settled.{IsSettled, IsNoted, IsPut, IsNote};
+ghost use Rattle.spool.specs.Spools.{LeftByNote};
+ghost use Rattle.spool.specs.Settled.{IsSettled, IsNoted, IsPut, IsNote, LeftByAdding};
 
-use crate::records::{bodies_record, note_record};
-use crate::state::{Spool, room_for};
+use crate::records::note_record;
+use crate::state::Spool;
 use crate::{Device, SpoolError};
 use std::alloc::Global;
 
 impl<D: Device> Spool<D> {
-    /// The records of bodies, and the next number and the size that the files have with them.
-    ///
-    /// # Errors
-    ///
-    /// `Full`: the bodies have no room. `Memory`.
-    pub(crate) fn put_record(
-        &self,
-        alloc: Global,
-        bodies: &[Vec<u8>],
-    ) -> Result<(Vec<u8>, u64, u64), SpoolError>
-        requires { D.is_known → IsSettled D.files D.moment D.left_at self.now }
-        ensures is { IfOk result (λ x. D.is_known → IsPut (D.files self.now.device)
-            (map (λ body. body.items) bodies.now) x.0.items x.1 x.2 self.now.limit) }
-        ensures small { OnOk result (self.now.next < 2 ^ 63) }
-        ensures full { IsErrOf result SpoolError.Full → D.is_known
-            → HasNoRoom (D.files self.now.device) (map (λ body. body.items) bodies.now)
-            self.now.limit }
-    {
-        let bytes = bodies_record(alloc, &self.table, bodies)?;
-        let (len, count) = (bytes.len() as u64, bodies.len() as u64);
-        match room_for(self.limit, self.size, self.next, self.done, len, count) {
-            Some((size, next)) => Ok((bytes, next, size)),
-            None => Err(SpoolError::Full),
-        }
-    }
-
     /// Adds the records of bodies to the newest file, or to a new one, and syncs.
     pub(crate) fn add_bodies(
         &mut self,
@@ -64,7 +38,7 @@ impl<D: Device> Spool<D> {
         ensures crash { D.is_known → (bodies : List (List ℕ))
             → IsPut (D.files self.old.device) bodies bytes.now next size self.old.limit
             → LeavesOnly D.moment D.left_at self.old.device self.new.device
-            (LeftByPut (D.files self.old.device) bodies self.old.limit) }
+            (LeftByAdding (D.files self.old.device) bodies self.old.limit) }
         ensures full { IsErrOf result SpoolError.Full → 2 ^ 63 ≤ self.old.next }
     {
         self.make_open(bytes.len() as u64)?;
@@ -107,6 +81,7 @@ impl<D: Device> Spool<D> {
     ) -> Result<(), SpoolError>
         requires settled { D.is_known → IsSettled D.files D.moment D.left_at self.old }
         requires is { D.is_known → IsNote (D.files self.old.device) number bytes.now size }
+        requires later { self.old.done < number }
         ensures settled { OnOk result (D.is_known
             → IsSettled D.files D.moment D.left_at self.new) }
         ensures is_open { OnOk result (IsSome self.new.growing) }

@@ -6,9 +6,10 @@ ghost use Rattle.spool.specs.Disks.{disk_size};
 ghost use Rattle.spool.specs.Crashes.{LeavesOnly};
 ghost use Rattle.spool.specs.Records.{note_size};
 ghost use Rattle.spool.specs.Spools.{waiting, next_number, reserved, numbered_from, LeftByPut, LeftByNote};
-ghost use Rattle.spool.specs.Spools.{HasNoRoom};
+ghost use Rattle.spool.specs.Spools.{HasNoRoom, HasNeverRoom};
 ghost use Rattle.spool.specs.Settled.{IsSettled, device_of, limit_of};
 
+use crate::records::bodies_record;
 use crate::state::Spool;
 use crate::{Device, SpoolError};
 use std::alloc::Global;
@@ -23,6 +24,8 @@ impl<D: Device> Spool<D> {
     ///
     /// `Full`: with these bodies, and notes of their deliveries, the files would pass the limit; or
     /// a body has 2^32 - 1 bytes or more, or there have been 2^63 bodies. Nothing has changed then.
+    /// Where no body waits, one of up to [`max_body`](crate::max_body) bytes always has room: all
+    /// files are removed for it, but for a new one that notes that no other waits.
     /// `Memory`, `Failed`: open the spool again, which has some of the bodies or none.
     pub fn put(&mut self, alloc: Global, bodies: &[Vec<u8>]) -> Result<u64, SpoolError>
         requires { D.is_known → IsSettled D.files D.moment D.left_at self.old }
@@ -42,12 +45,17 @@ impl<D: Device> Spool<D> {
         ensures full { IsErrOf result SpoolError.Full → D.is_known
             → HasNoRoom (D.files (device_of self.old)) (map (λ body. body.items) bodies.now)
             (limit_of self.old) }
+        ensures never { IsErrOf result SpoolError.Full → D.is_known
+            → waiting (D.files (device_of self.old)) ≡ []
+            → HasNeverRoom (D.files (device_of self.old)) (map (λ body. body.items) bodies.now)
+            (limit_of self.old) }
         ensures crash { D.is_known
             → LeavesOnly D.moment D.left_at (device_of self.old) (device_of self.new)
             (LeftByPut (D.files (device_of self.old)) (map (λ body. body.items) bodies.now)
             (limit_of self.old)) }
     {
-        let (bytes, next, size) = self.put_record(alloc, bodies)?;
+        let bytes = bodies_record(alloc, &self.table, bodies)?;
+        let (size, next) = self.take_room(alloc, bytes.len() as u64, bodies.len() as u64)?;
         let first = self.next;
         self.add_bodies(&bytes, next, size)?;
         Ok(first)

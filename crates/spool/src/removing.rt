@@ -2,7 +2,7 @@
 ghost use Rattle.std.specs.Prelude.{◌≡◌, ℕ, ◌+◌, ◌<◌, ◌≤◌, true, false, OnOk, IsErrOf};
 ghost use Rattle.spool.specs.Crashes.{LeavesOnly};
 ghost use Rattle.spool.specs.Spools.{done_to, next_number};
-ghost use Rattle.spool.specs.Settled.{IsSettled, IsNoted, IsNoLarger, FirstIsDone};
+ghost use Rattle.spool.specs.Settled.{IsSettled, IsNoted, IsNoLarger, FirstIsDone, FirstIsLeft};
 ghost use Rattle.std.specs.Prelude.{IsSome, vec_len};
 
 use crate::state::{Segment, Spool};
@@ -11,7 +11,8 @@ use crate::{Device, SpoolError};
 
 /// Whether all bodies of the first segment are noted as delivered.
 fn first_is_done(older: &[Segment], done: u64) -> bool
-    ensures { result ≡ true → FirstIsDone older.now done }
+    ensures done { result ≡ true → FirstIsDone older.now done }
+    ensures left { result ≡ false → FirstIsLeft older.now done }
 {
     match older.first() {
         Some(first) => first.end <= done,
@@ -32,6 +33,7 @@ impl<D: Device> Spool<D> {
         ensures done { OnOk result (self.new.done ≡ self.old.done) }
         ensures next { OnOk result (self.new.next ≡ self.old.next) }
         ensures is_open { OnOk result (IsSome self.new.growing) }
+        ensures growing { self.new.growing ≡ self.old.growing }
         ensures fewer { vec_len self.new.older + 1 ≡ vec_len self.old.older }
         ensures limit { self.new.limit ≡ self.old.limit }
         ensures same { OnOk result (D.is_known
@@ -56,6 +58,8 @@ impl<D: Device> Spool<D> {
             → IsSettled D.files D.moment D.left_at self.new) }
         ensures done { OnOk result (self.new.done ≡ self.old.done) }
         ensures next { OnOk result (self.new.next ≡ self.old.next) }
+        ensures growing { self.new.growing ≡ self.old.growing }
+        ensures left { OnOk result (FirstIsLeft self.new.older.items self.new.done) }
         ensures limit { self.new.limit ≡ self.old.limit }
         ensures same { OnOk result (D.is_known
             → IsNoLarger (D.files self.old.device) (D.files self.new.device)) }

@@ -6,9 +6,10 @@ use std::fs;
 use std::io::{self, Seek, Write};
 use std::os::unix::fs::OpenOptionsExt;
 
-/// How many bytes are kept. A note takes 17, and a block or two of a disk, of a new file too; the
-/// delivered files that it frees then give more room than it took. (profile)
-const RESERVED: usize = 65_536;
+/// How many bytes the file of a [`SpoolFolder`](crate::SpoolFolder) has that keeps room for notes,
+/// beside the files that a spool's limit bounds. A note takes 17, and a block or two of a disk, of a
+/// new file too; the delivered files that it frees then give more room than it took. (profile)
+pub const RESERVED_BYTES: u64 = 65_536;
 
 /// What the bytes are: not zero, since some file systems keep no block for zeros.
 const FILLER: u8 = 0xA5;
@@ -35,7 +36,7 @@ impl Reserve {
         let len = file.metadata().map_err(failed)?.len();
         let mut reserve = Reserve {
             file,
-            is_there: len == RESERVED as u64,
+            is_there: len == RESERVED_BYTES,
         };
         reserve.fill(rt.alloc())?;
         Ok(reserve)
@@ -47,7 +48,7 @@ impl Reserve {
             return Ok(());
         }
         let mut bytes = Vec::new(alloc);
-        bytes.resize(RESERVED, FILLER)?;
+        bytes.resize(RESERVED_BYTES as usize, FILLER)?;
         self.is_there = self.write(&bytes).is_ok();
         if !self.is_there {
             let _ = self.file.set_len(0);

@@ -124,6 +124,30 @@ impl<D: Device> Spool<D> {
         if self.next >= MAX_NUMBER {
             return Err(SpoolError::Full);
         }
+        self.make_file()
+    }
+
+    /// Makes a new file.
+    pub(crate) fn make_file(&mut self) -> Result<(), SpoolError>
+        requires settled { D.is_known → IsSettled D.files D.moment D.left_at self.old }
+        requires small { self.old.next < 2 ^ 63 }
+        ensures settled { OnOk result (D.is_known
+            → IsSettled D.files D.moment D.left_at self.new) }
+        ensures growing { OnOk result (self.new.growing ≡ Some (record {
+          number = self.old.next;
+          «end» = self.old.next;
+          len = 0;
+          rest = 0;
+        })) }
+        ensures is_open { OnOk result (IsSome self.new.growing) }
+        ensures next { OnOk result (self.new.next ≡ self.old.next) }
+        ensures same { OnOk result (D.is_known → IsSame (D.files self.old.device)
+            (D.files self.new.device)) }
+        ensures limit { self.new.limit ≡ self.old.limit }
+        ensures crash { D.is_known → LeavesOnly D.moment D.left_at self.old.device self.new.device
+            (IsSame (D.files self.old.device)) }
+        ensures full { IsErrOf result SpoolError.Full → ⊥ }
+    {
         retire(&mut self.older, self.growing)?;
         create_synced(&mut self.device, self.next)?;
         self.growing = Some(Segment {
@@ -150,6 +174,8 @@ impl<D: Device> Spool<D> {
         ensures settled { OnOk result (D.is_known
             → IsSettled D.files D.moment D.left_at self.new) }
         ensures is_open { OnOk result (IsSome self.new.growing) }
+        ensures growing { OnOk result (self.new.growing
+            ≡ grown_by next (length bytes.now) self.old.growing) }
         ensures next { OnOk result (self.new.next ≡ next) }
         ensures done { OnOk result (self.new.done ≡ done) }
         ensures written { OnOk result (D.is_known

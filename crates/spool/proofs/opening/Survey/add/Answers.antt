@@ -1,4 +1,4 @@
-use Rattle.std.proofs.Common.{refl, sym, ap, ◌∙◌, List, ℕ, length, ◌≡◌, ◌+◌, ◌++◌, [], ◌∷◌, arith}
+use Rattle.std.proofs.Common.{sym, ap, ◌∙◌, List, ℕ, length, ◌≡◌, ◌+◌, ◌++◌, [], ◌∷◌, arith}
 use Rattle.spool.specs.Records.{contents, rest, bodies, notes}
 use Rattle.spool.specs.Spools.{greatest}
 use Rattle.spool.proofs.SurveyLaws.{survey-more, survey-overlaps}

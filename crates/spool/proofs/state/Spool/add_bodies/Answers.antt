@@ -1,8 +1,7 @@
 use Rattle.std.proofs.Common.{arith}
-use Rattle.spool.specs.Settled.{IsSame}
-use Rattle.spool.specs.Spools.{LeftByPut}
+use Rattle.spool.specs.Settled.{IsSame, LeftByAdding}
 use Rattle.spool.proofs.Moments.{weaker}
-use Rattle.spool.proofs.CallLaws.{left-by-same, put-leaves, put-grows, put-waiting, put-bound}
+use Rattle.spool.proofs.CallLaws.{added-none, added-leaves, put-grows, put-waiting, put-bound}
 use Rattle.spool.proofs.state.Spool.add_bodies.Goals as goal
 
 pub returns-in_err-make_open-clause-crash : goal.returns-in_err-make_open-clause-crash
@@ -10,8 +9,9 @@ returns-in_err-make_open-clause-crash g c = λ known bodies is.
     let disk = g.D.Device.files c.args.self.now.device in
     let limit = c.args.self.now.limit in
     weaker g.D.Device.moment g.D.Device.left_at c.args.self.now.device c.make_open.new.self.device
-    (IsSame disk) (LeftByPut disk bodies limit)
-    (λ left same. left-by-same disk left bodies limit (c.requires.settled known).rises same)
+    (IsSame disk) (LeftByAdding disk bodies limit)
+    (λ left same.
+    added-none disk left bodies _ _ _ limit (c.requires.settled known).rises is same)
     (c.make_open.ensures.crash known)
 
 pub write-requires-clause-grows : goal.write-requires-clause-grows
@@ -24,7 +24,7 @@ write-requires-clause-grows g c = λ known.
 pub returns-in_err-write-clause-crash : goal.returns-in_err-write-clause-crash
 returns-in_err-write-clause-crash g c = λ known bodies is.
     let s = c.in_ok-make_open.ensures.settled known in
-    put-leaves _ _ (c.requires.settled known).rises (c.in_ok-make_open.ensures.same known)
+    added-leaves _ _ (c.requires.settled known).rises (c.in_ok-make_open.ensures.same known)
     (s.grows c.in_ok-make_open.ensures.is_open) bodies _ _ _ _ is g.D.Device.moment
     g.D.Device.left_at
     _ _ _ (c.make_open.ensures.crash known) (c.write.ensures.crash known)
@@ -32,7 +32,7 @@ returns-in_err-write-clause-crash g c = λ known bodies is.
 pub returns-clause-crash : goal.returns-clause-crash
 returns-clause-crash g c = λ known bodies is.
     let s = c.in_ok-make_open.ensures.settled known in
-    put-leaves _ _ (c.requires.settled known).rises (c.in_ok-make_open.ensures.same known)
+    added-leaves _ _ (c.requires.settled known).rises (c.in_ok-make_open.ensures.same known)
     (s.grows c.in_ok-make_open.ensures.is_open) bodies _ _ _ _ is g.D.Device.moment
     g.D.Device.left_at
     _ _ _ (c.make_open.ensures.crash known) (c.write.ensures.crash known)

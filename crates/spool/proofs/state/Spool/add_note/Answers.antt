@@ -1,3 +1,4 @@
+use Rattle.std.proofs.Common.{arith}
 use Rattle.spool.specs.Settled.{IsSame}
 use Rattle.spool.specs.Spools.{LeftByNote}
 use Rattle.spool.proofs.Moments.{weaker}
@@ -24,16 +25,18 @@ returns-in_err-write-clause-crash g c = λ known.
     let s = c.in_ok-make_open.ensures.settled known in
     note-leaves _ _ (c.requires.settled known).rises (c.in_ok-make_open.ensures.same known)
     (s.grows c.in_ok-make_open.ensures.is_open) _ _ _
-    (c.requires.is known) g.D.Device.moment g.D.Device.left_at
-    _ _ _ (c.make_open.ensures.crash known) (c.write.ensures.crash known)
+    (c.requires.is known) (omega (arith, c.requires.later, (c.requires.settled known).done))
+    g.D.Device.moment g.D.Device.left_at _ _ _ (c.make_open.ensures.crash known)
+    (c.write.ensures.crash known)
 
 pub returns-clause-crash : goal.returns-clause-crash
 returns-clause-crash g c = λ known.
     let s = c.in_ok-make_open.ensures.settled known in
     note-leaves _ _ (c.requires.settled known).rises (c.in_ok-make_open.ensures.same known)
     (s.grows c.in_ok-make_open.ensures.is_open) _ _ _
-    (c.requires.is known) g.D.Device.moment g.D.Device.left_at
-    _ _ _ (c.make_open.ensures.crash known) (c.write.ensures.crash known)
+    (c.requires.is known) (omega (arith, c.requires.later, (c.requires.settled known).done))
+    g.D.Device.moment g.D.Device.left_at _ _ _ (c.make_open.ensures.crash known)
+    (c.write.ensures.crash known)
 
 pub returns-clause-noted : goal.returns-clause-noted
 returns-clause-noted g c = λ known.

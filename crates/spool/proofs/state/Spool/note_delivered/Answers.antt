@@ -43,7 +43,8 @@ returns-in_err-remove_done-clause-crash g c = λ known.
     c.add_note.new.self.device c.remove_done.new.self.device disk
     (g.D.Device.files c.add_note.new.self.device) c.args.number c.min-noted.result
     (c.min-noted.ensures ∙ ap (λ (n : ℕ). min c.args.number n) was.next)
-    (note-room disk _ _ _ (c.in_ok-bytes.ensures.is known)) (c.add_note.ensures.crash known)
+    (note-room disk _ _ _ (c.in_ok-bytes.ensures.is known)
+    (omega (arith, c.if-noted-self.false, was.done))) (c.add_note.ensures.crash known)
     (c.in_ok-add_note.ensures.waiting known) (c.in_ok-add_note.ensures.sized known)
     (c.in_ok-add_note.ensures.settled known).rises (c.remove_done.ensures.crash known)
 
@@ -55,7 +56,8 @@ returns-clause-crash g c = λ known.
     c.add_note.new.self.device c.remove_done.new.self.device disk
     (g.D.Device.files c.add_note.new.self.device) c.args.number c.min-noted.result
     (c.min-noted.ensures ∙ ap (λ (n : ℕ). min c.args.number n) was.next)
-    (note-room disk _ _ _ (c.in_ok-bytes.ensures.is known)) (c.add_note.ensures.crash known)
+    (note-room disk _ _ _ (c.in_ok-bytes.ensures.is known)
+    (omega (arith, c.if-noted-self.false, was.done))) (c.add_note.ensures.crash known)
     (c.in_ok-add_note.ensures.waiting known) (c.in_ok-add_note.ensures.sized known)
     (c.in_ok-add_note.ensures.settled known).rises (c.remove_done.ensures.crash known)
 
@@ -73,6 +75,7 @@ returns-clause-bound g c = λ known.
     let last = c.in_ok-remove_done.ensures.settled known in
     let no_larger = c.in_ok-remove_done.ensures.same known in
     note-reserved (g.D.Device.files c.args.self.now.device) _ _ _ (c.in_ok-bytes.ensures.is known)
+    (omega (arith, c.if-noted-self.false, was.done))
     (g.D.Device.files c.remove_done.new.self.device)
     (omega (arith, no_larger.size, c.in_ok-add_note.ensures.sized known))
     (sym last.next

@@ -12,6 +12,7 @@ invariant-loop-self g l = record {
   noted : g.D.Device.is_known → IsNoted (g.D.Device.files l.self.device);
   done : l.self.done ≡ l.fn.self.done;
   next : l.self.next ≡ l.fn.self.next;
+  growing : l.self.growing ≡ l.fn.self.growing;
   limit : l.self.limit ≡ l.fn.self.limit;
   same : g.D.Device.is_known
       → IsNoLarger (g.D.Device.files l.fn.self.device) (g.D.Device.files l.self.device);
