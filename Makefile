@@ -1,5 +1,5 @@
 .DEFAULT_GOAL := help
-.PHONY: help run tour quick ports test audit docs times install install-unproved check format clean
+.PHONY: help run tour quick ports test audit docs times install install-unproved release check format clean
 
 PREFIX ?= $(HOME)/.local
 PORT ?= 4318
@@ -35,6 +35,7 @@ test: ports docs ## The gate: every proof, wrong bodies, tests and runs (from no
 	tools/shop-runs
 	tools/view-runs
 	tools/relay-runs
+	tools/release-runs
 	tools/view-bounds
 	tools/hostile-bodies
 	tools/wont-compile
@@ -56,6 +57,9 @@ install: ## Put the programs that make test left built into PREFIX/bin, or PROGR
 
 install-unproved: ## Put trace-view and otlp-relay into PREFIX/bin, built without their proofs (a few minutes)
 	tools/install '$(PREFIX)/bin' --unproved $(or $(PROGRAMS),trace-view otlp-relay)
+
+release: ## Write an archive and a Debian package of trace-view and otlp-relay into out/release, after make test
+	tools/release
 
 check: ## Prove every crate over what earlier checks kept
 	rt all check
