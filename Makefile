@@ -35,6 +35,8 @@ test: ports docs ## The gate: every proof, wrong bodies, tests and runs (from no
 	tools/shop-runs
 	tools/view-runs
 	tools/relay-runs
+	tools/disk-runs
+	tools/crash-states
 	tools/release-runs
 	tools/view-bounds
 	tools/hostile-bodies
