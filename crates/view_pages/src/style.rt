@@ -18,7 +18,14 @@ body { margin: 0; background: var(--back); color: var(--text);
   font: 14px/1.45 system-ui, 'Segoe UI', 'DejaVu Sans', sans-serif; }
 header { padding: 0.9rem 1.25rem 0.6rem; border-bottom: 1px solid var(--line); }
 h1 { margin: 0.15rem 0; font-size: 1.2rem; overflow-wrap: anywhere; }
-header p { margin: 0.2rem 0; color: var(--soft); }
+h1, header p { max-height: 8rem; overflow: auto; }
+h1 small { color: var(--soft); font-size: 0.9rem; font-weight: 400; unicode-bidi: isolate; }
+header p { margin: 0.2rem 0; color: var(--soft); overflow-wrap: anywhere; }
+header .errors { color: var(--bad); } .errors a { display: inline-block; max-width: 20rem;
+  margin-left: 0.4rem; overflow: hidden; text-overflow: ellipsis; white-space: nowrap;
+  vertical-align: bottom; unicode-bidi: isolate; }
+.legend span { margin-right: 1rem; padding-left: 0.4rem; border-left: 0.6rem solid var(--c);
+  unicode-bidi: isolate; }
 a { color: var(--link); }
 code, dd, .took, pre { font-family: ui-monospace, 'DejaVu Sans Mono', monospace; }
 code, dd { font-size: 0.92em; }
@@ -27,7 +34,7 @@ b, dt, dd, h5, td { unicode-bidi: isolate; }
 .rows { list-style: none; margin: 0; padding: 0 0 2rem; }
 .row { display: block; border-bottom: 1px solid var(--line); content-visibility: auto;
   contain-intrinsic-size: auto 30px; scroll-margin-top: 2rem; }
-.axis, summary { display: grid; grid-template-columns: minmax(14rem, 36%) 1fr 5.5rem;
+.axis, summary { display: grid; grid-template-columns: minmax(18rem, 36%) 1fr 5.5rem;
   gap: 0.75rem; align-items: center; padding: 0 1.25rem; }
 .axis { position: sticky; top: 0; z-index: 1; min-height: 1.6rem; background: var(--back);
   border-bottom: 1px solid var(--grid); color: var(--soft); font-size: 0.78rem; }
@@ -42,13 +49,18 @@ summary { min-height: 29px; cursor: pointer; list-style: none; scroll-margin-top
 summary::-webkit-details-marker { display: none; }
 summary:hover, details[open] > summary { background: var(--card); }
 summary:focus-visible { outline: 2px solid var(--link); outline-offset: -2px; }
-.label { margin-left: min(calc(var(--d) * 0.9rem), 40%); padding-left: 0.5rem;
+.label { margin-left: max(0px, min(var(--d) * 0.9rem, 100% - 12.5rem)); padding-left: 0.5rem;
   border-left: 4px solid var(--c); display: flex; gap: 0.45rem; align-items: baseline;
   overflow: hidden; white-space: nowrap; }
 .label b { font-weight: 600; min-width: 4rem; flex: 0 1 auto; overflow: hidden;
   text-overflow: ellipsis; }
+details[open] > summary .label { display: block; padding-block: 0.2rem; white-space: normal;
+  overflow-wrap: anywhere; }
+details[open] > summary :is(b, small) { white-space: pre-wrap; }
+details[open] .fold { margin-right: 0.45rem; }
+.bad > details > summary :is(b, .took) { color: var(--bad); }
 .label .blank { font-weight: 400; font-style: italic; color: var(--soft); }
-.label small { color: var(--soft); min-width: 0; flex: 0 99 auto; overflow: hidden;
+.label small { color: var(--soft); min-width: 2rem; flex: 0 99 auto; overflow: hidden;
   text-overflow: ellipsis; }
 .label em { min-width: 2.8rem; flex: 0 2 auto; overflow: hidden; text-overflow: ellipsis; }
 em { font-style: normal; font-size: 0.82em; padding: 0.05rem 0.4rem; border-radius: 0.6rem;
@@ -85,16 +97,19 @@ input, button { font: inherit; color: var(--text); background: var(--back); padd
 .copy { margin-left: 0.5rem; padding: 0 0.35rem; font: 0.75rem/1.5 system-ui, sans-serif; }
 .copy::before { content: 'copy'; } .copy.done::before { content: 'copied'; }
 .above > details > summary { color: var(--soft); }
-output { color: var(--soft); }
+output { color: var(--soft); } ::placeholder { color: var(--soft); opacity: 1; }
 table { border-collapse: collapse; width: 100%; } th { text-align: left; color: var(--soft);
   font-weight: 500; } td, th { padding: 0.35rem 1.25rem; border-bottom: 1px solid var(--line); }
 tr:hover td { background: var(--card); }
+:is(td, th):nth-child(n+3):nth-child(-n+5) { text-align: right;
+  font-variant-numeric: tabular-nums; }
+td.errors { color: var(--bad); font-weight: 600; }
 @media (max-width: 640px) {
   .axis, summary { grid-template-columns: 1fr 5.5rem; padding: 0 0.75rem; gap: 0.2rem 0.5rem; }
   summary { padding-top: 0.25rem; padding-bottom: 0.25rem; }
   .axis span { grid-area: 1 / 1; } .axis span:nth-child(even) { display: none; }
   .axis span:nth-child(5) { grid-area: 1 / 2; margin-left: -0.5rem; }
-  .label { grid-column: 1 / 3; margin-left: min(calc(var(--d) * 0.5rem), 40%); }
+  .label { grid-column: 1 / 3; margin-left: max(0px, min(var(--d) * 0.5rem, 100% - 12.5rem)); }
   header { padding-left: 0.75rem; padding-right: 0.75rem; }
   .panel { margin: 0 0.5rem 0.6rem; }
   dl { grid-template-columns: 1fr; } dd { padding-left: 0.75rem; }

@@ -3,12 +3,18 @@
 /// The script that `/view.js` serves. On the page of a trace a field searches the spans, and shows
 /// with each span that it finds those above it; a mark at a span folds those under it, and a long
 /// trace comes folded below its third level; identifiers can be copied, and keys go to the search
-/// and from row to row. No page needs it.
+/// and from row to row. The heading names the root, when it began, the errors and the services. In
+/// the list of traces, numbers of errors above 0 are marked. No page needs it.
 pub(crate) const SCRIPT: &str = "'use strict';
 (() => {
+  document.querySelectorAll('td:nth-child(4)').forEach((errors) => {
+    errors.classList.toggle('errors', errors.textContent !== '0');
+  });
   const list = document.querySelector('ol.rows');
   if (!list) return;
   const LONG = 300; // spans above which a trace is folded below its third level
+  const LINKS = 8; // errors that the heading has links to, at most
+  const ZONED = { dateStyle: 'medium', timeStyle: 'long' };
   const rows = [...list.children];
   const levels = rows.map((row) => Number(row.getAttribute('aria-level')));
   const parents = []; // of each row the place of the row that it is under, or -1
@@ -19,6 +25,8 @@ pub(crate) const SCRIPT: &str = "'use strict';
     path.push(at);
   });
   const hasChild = (at) => parents[at + 1] === at;
+  const nameOf = (row) => row.querySelector('.label b').textContent;
+  const serviceOf = (row) => row.querySelector('.label small').textContent;
   const folded = new Set();
   const opened = new Set();
   const words = [];
@@ -175,18 +183,81 @@ pub(crate) const SCRIPT: &str = "'use strict';
 
   // Shows the row that the address names.
   const reveal = () => {
-    const row = location.hash && document.getElementById(location.hash.slice(1));
+    const row = document.getElementById(location.hash.slice(1));
     const at = rows.indexOf(row);
     for (let up = parents[at] ?? -1; up >= 0; up = parents[up]) fold(up, false);
     show();
+    if (row?.hidden) {
+      search.value = '';
+      show();
+    }
     if (row) row.scrollIntoView();
   };
   addEventListener('hashchange', reveal);
   if (rows.length > LONG) {
     levels.forEach((level, at) => level === 3 && hasChild(at) && fold(at, true));
   }
-  const trace = document.querySelector('h1 code');
-  trace.after(copierOf(trace.firstChild));
+
+  // What the panel of a row says by a word, such as when its span started.
+  const factOf = (row, word) => {
+    const words = [...row.querySelectorAll('.panel > dl:first-child > dt')];
+    return words.find((it) => it.textContent === word)?.nextElementSibling.firstChild;
+  };
+
+  // When a span started in the browser's zone, with the same in UTC.
+  const timeOf = (row) => {
+    const moment = factOf(row, 'start').data.trim();
+    const start = new Date(`${moment.slice(0, 23)}Z`);
+    const time = elementOf('time', '', start.toLocaleString(undefined, ZONED));
+    time.dateTime = moment;
+    time.title = moment;
+    return time;
+  };
+
+  const linkTo = (row) => {
+    row.id ||= `row-${rows.indexOf(row)}`;
+    const link = elementOf('a', '', nameOf(row));
+    link.href = `#${row.id}`;
+    return link;
+  };
+
+  // The errors of a trace: links to the first ones, and a search for all if there are more.
+  const errorsOf = (failed) => {
+    const count = failed.length === 1 ? '1 error:' : `${failed.length} errors:`;
+    const line = elementOf('p', 'errors', count);
+    failed.slice(0, LINKS).forEach((row) => line.append(' ', linkTo(row)));
+    if (failed.length > LINKS) {
+      line.append(' ', buttonOf('', 'Show these alone', () => {
+        search.value = 'status=error';
+        show();
+      }));
+    }
+    return line;
+  };
+
+  // Has the heading say what the trace is: its root, when that began, its errors, its services.
+  const describe = () => {
+    const [heading, about] = document.querySelectorAll('header > h1, header > p');
+    const trace = heading.querySelector('code');
+    const root = rows.find((row, at) => parents[at] < 0 && !factOf(row, 'parent')) ?? rows[0];
+    const failed = rows.filter((row) => row.classList.contains('bad'));
+    const services = new Map(rows.map((row) => [serviceOf(row), row.classList[1]]));
+    document.title = nameOf(root);
+    heading.replaceChildren(nameOf(root), ' ', elementOf('small', '', serviceOf(root)));
+    heading.after(elementOf('p', '', 'Trace ', trace, copierOf(trace.firstChild)));
+    const json = elementOf('a', '', 'As JSON');
+    json.href = `/api/trace/${trace.textContent}`;
+    about.prepend(timeOf(root), ': ');
+    about.append(' ', json);
+    if (failed.length) about.after(errorsOf(failed));
+    const legend = [...services].map(([name, colour]) => elementOf('span', colour, name));
+    form.before(elementOf('p', 'legend', ...legend));
+  };
+
+  rows.forEach((row) => {
+    row.querySelector('.label').title = `${nameOf(row)}, ${serviceOf(row)}`;
+  });
+  describe();
   reveal();
 })();
 ";
