@@ -45,10 +45,11 @@ test: ports docs ## The gate: every proof, wrong bodies, tests and runs (from no
 audit: ## All wrong bodies, after make test; before each version (75 processor minutes)
 	tools/wrong-bodies --all
 
-docs: ## Compare the documents with the sources, and write out/DEFINITIONS.md and out/PROMISES.md
+docs: ## Compare the documents with the sources, and write out/DEFINITIONS.md, out/PROMISES.md and out/ERRORS.md
 	tools/layout --lines
 	tools/definitions
 	tools/promises
+	tools/errors
 	tools/check-docs
 
 times: ## The gate, and what each crate took of the processors
