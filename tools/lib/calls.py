@@ -50,7 +50,7 @@ def result_of(text):
 def calls_in(text, first=0):
     """The calls of a log, in the order of their begins. The first line has this number."""
     begun, found = {}, []
-    for place, line in enumerate(text.splitlines(), first):
+    for place, line in enumerate(text.split("\n"), first):
         parts = LINE.fullmatch(line)
         if not parts:
             continue
