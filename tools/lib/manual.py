@@ -8,9 +8,9 @@ from lib.options import about_of, options_of
 FILES, FOLDERS = {"FILE"}, {"DIR"}
 ENDS = {
     "trace-view": "It runs until it is ended by a signal.",
-    "otlp-relay": "It runs until something comes on its standard input, or that ends: then it hands on"
-    " what it can, and prints a balance. Where standard input is a file or /dev/null, only a signal"
-    " ends it.",
+    "otlp-relay": "It runs until something comes on its standard input, or that ends: then it hands"
+    " on what it can, and prints a balance. Where standard input is a file or /dev/null, only a"
+    " signal ends it.",
 }
 STATUSES = (
     ("0", "after help and the version, and after a stop"),
@@ -70,7 +70,8 @@ def bash_of(name, crate):
     words = " ".join(f"--{it.name}" for it in options)
     files = "|".join(f"--{it.name}" for it in options if it.value in FILES)
     folders = "|".join(f"--{it.name}" for it in options if it.value in FOLDERS)
-    others = "|".join(f"--{it.name}" for it in options if it.value and it.value not in FILES | FOLDERS)
+    rest = [it for it in options if it.value and it.value not in FILES | FOLDERS]
+    others = "|".join(f"--{it.name}" for it in rest)
     function = f"_{name.replace('-', '_')}"
     cases = [f"    {others}) return ;;"]
     if files:
@@ -97,11 +98,12 @@ def zsh_of(name, crate):
     lines = [f"#compdef {name}", "_arguments \\"]
     rows = []
     for it in options_of(crate):
-        said = it.help.replace("'", "'\\''").replace("[", "\\[").replace("]", "\\]").replace(":", "\\:")
+        said = re.sub(r"([][:])", r"\\\1", it.help.replace("'", "'\\''"))
         many = "*" if it.is_repeated else ""
         action = "_files" if it.value in FILES else "_files -/" if it.value in FOLDERS else " "
         value = it.value.replace(":", "\\:")
-        rows.append(f"    '{many}--{it.name}[{said}]" + (f":{value}:{action}'" if it.value else "'"))
+        takes = f":{value}:{action}" if it.value else ""
+        rows.append(f"    '{many}--{it.name}[{said}]{takes}'")
     return "\n".join([*lines, " \\\n".join(rows), ""])
 
 
