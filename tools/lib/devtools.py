@@ -38,12 +38,20 @@ class Browser:
         self.asked, self.rest, self.session, self.events = 0, b"", {}, []
 
     def __enter__(self):
+        try:
+            self.attach()
+        except BaseException:
+            self.__exit__()
+            raise
+        return self
+
+    def attach(self):
+        """Makes the page, and has it say what it does."""
         page = self.ask("Target.createTarget", url="about:blank")["targetId"]
         found = self.ask("Target.attachToTarget", targetId=page, flatten=True)
         self.session = {"sessionId": found["sessionId"]}
         for domain in ("Page", "Runtime", "Log"):
             self.ask(f"{domain}.enable")
-        return self
 
     def __exit__(self, *_):
         self.process.kill()

@@ -225,6 +225,15 @@ def heading_rows(page, address):
     yield "the open row", page.value(WHOLE), [[], f"{NAMES[1]}, {SERVICES[1]}"]
 
 
+def list_rows(page, address):
+    """Which numbers of errors the list of traces marks, and on which side of a cell they are."""
+    page.open(address.partition("/trace/")[0])
+    marked = "[...document.querySelectorAll('td.errors')].map((it) => it.textContent)"
+    yield "errors in the list", page.value(marked), [str(len(FAILED))]
+    side = "getComputedStyle(document.querySelector('td.errors')).textAlign"
+    yield "where numbers are", page.value(side), "right"
+
+
 def look_rows(page, address):
     """What can't be read, at each width and in both themes."""
     for width, scheme in SIZES:
@@ -255,8 +264,9 @@ def page_rows(program, browser):
         page.resize(1_400)
         for some in (found_rows, fold_rows, key_rows):
             yield from compared(some(page, addresses[2_000]))
-        for some in (heading_rows, look_rows):
-            yield from compared(some(page, post_chain(view)))
+        chain = post_chain(view)
+        for some in (heading_rows, list_rows, look_rows):
+            yield from compared(some(page, chain))
         yield "what the console says", [str(it) for it in page.told()]
         for size, seconds in SEARCHED:
             yield time_row(page, addresses[size], size, seconds)

@@ -200,8 +200,8 @@ pub(crate) const SCRIPT: &str = "'use strict';
 
   // What the panel of a row says by a word, such as when its span started.
   const factOf = (row, word) => {
-    const words = [...row.querySelectorAll('.panel > dl:first-child > dt')];
-    return words.find((it) => it.textContent === word)?.nextElementSibling.firstChild;
+    const names = [...row.querySelectorAll('.panel > dl:first-child > dt')];
+    return names.find((it) => it.textContent === word)?.nextElementSibling.firstChild;
   };
 
   // When a span started in the browser's zone, with the same in UTC.
