@@ -62,10 +62,12 @@ admitted_body _ = None
 abbrev pub admitted_bodies : List BodyEvent → List (List ℕ)
 admitted_bodies events = filter_map admitted_body events
 
--- Whether a batch of so many bodies, which ends by this fate, is split: where it was refused and
--- has several bodies, none of them ends, and each is sent once more alone.
+-- Whether a batch of so many bodies, which ends by this fate, is split: where it was refused, or
+-- its reply can't be read, and it has several bodies, none of them ends, and each is sent once more
+-- alone.
 abbrev pub is_split : Fate → ℕ → Bool
 is_split (Fate.refused status) n = nat_lt 1 n
+is_split Fate.bad_reply n = nat_lt 1 n
 is_split _ n = false
 
 -- how many of its bodies end

@@ -107,6 +107,7 @@ where
             Tried::Nothing => self.linger(),
             Tried::Failed(SpoolError::Full) => self.stay(),
             Tried::OutOfMemory | Tried::Failed(_) => self.pause(),
+            Tried::Unnamed => self.name_again(),
         }
         true
     }
@@ -158,6 +159,14 @@ where
         let _ = self
             .sender
             .finish(&self.rt, &self.kept, now, word, &mut self.names);
+    }
+
+    /// Names what could not be named, once more.
+    fn name_again(&mut self) {
+        self.pause();
+        let _ = self
+            .sender
+            .name_again(&self.rt, &self.kept, &mut self.names);
     }
 
     /// Reports an outcome that isn't a full success.

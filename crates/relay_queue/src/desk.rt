@@ -69,9 +69,9 @@ impl<A: Allocator + Copy> BodyDesk<A> {
 
     /// Ends the batch that is out, as `is_out` says, by this fate (OTLP Specification, "OTLP/HTTP
     /// Response"), and hands out the bodies that end with it, the first one first: where that is a
-    /// loss (`is_loss`), the caller names their spans. A batch of several bodies that was refused
-    /// is split: no body ends, and each of them is sent once more, alone. It takes no memory.
-    /// (profile)
+    /// loss (`is_loss`), the caller names their spans. A batch of several bodies that was refused,
+    /// or whose reply can't be read, is split: no body ends, and each of them is sent once more,
+    /// alone. It takes no memory. (profile)
     pub fn settle(&mut self, fate: Fate) -> Vec<Vec<u8, A>, A>
         requires { self.old.turn ≡ is_out }
         ensures ended { bodies_view result.items

@@ -18,7 +18,7 @@ pub fn is_loss(fate: Fate) -> bool
 pub(crate) fn is_split(fate: Fate, count: usize) -> bool
     ensures { result ≡ is_split (fate_view fate) count }
 {
-    matches!(fate, Fate::Refused(_)) && count > 1
+    matches!(fate, Fate::Refused(_) | Fate::BadReply) && count > 1
 }
 
 /// How many bodies are delivered and how many are lost, after so many more ended by this fate.

@@ -83,6 +83,7 @@ Attempted tried.Nothing old new had has = ⊥
 Attempted (tried.Failed error) old new had has = ⊥
 Attempted (tried.Early moment) old new had has = ⊥
 Attempted tried.Unjudged old new had has = ⊥
+Attempted tried.Unnamed old new had has = ⊥
 
 -- It has a batch in hand: the one that it had, or one that it took.
 pub record HasBatch (old batch : Handler) : Type 0 where
@@ -113,6 +114,7 @@ Tries now (tried.Early moment) old new had has =
     (early_at now old.sender.stage ≡ Some moment) × (new ≡ old) × (has ≡ had)
 Tries now tried.Unjudged old new had has =
     (is_pending old.sender.stage ≡ true) × (new ≡ old) × (has ≡ had)
+Tries now tried.Unnamed old new had has = (new ≡ old) × (has ≡ had)
 
 -- ---- outcomes
 

@@ -51,11 +51,14 @@ with_received spans counts =
 abbrev pub with_attempt : Counts → Counts
 with_attempt counts = record counts { attempts = capped (counts.attempts + 1) }
 
--- With so many more spans that are lost or were delivered.
-abbrev pub with_ended : Bool → ℕ → Counts → Counts
-with_ended is_loss spans counts =
+-- With so many more spans that are lost, or were delivered but for so many that were rejected.
+abbrev pub with_ended : Bool → ℕ → ℕ → Counts → Counts
+with_ended is_loss spans rejected counts =
     if is_loss then record counts { lost_spans = capped (counts.lost_spans + spans) }
-    else record counts { delivered_spans = capped (counts.delivered_spans + spans) }
+    else record counts {
+      delivered_spans = capped (counts.delivered_spans + (spans - rejected));
+      rejected_spans = capped (counts.rejected_spans + rejected);
+    }
 
 -- With the bodies that were delivered from a desk, or lost at it, which is no longer there.
 abbrev pub with_desk : ℕ → ℕ → Counts → Counts
@@ -159,5 +162,8 @@ pub record IsReport {D : Type 0} (kept : Kept D) (report : Report) : Type 0 wher
   pub received_spans : report.spans.received ≡ kept.counts.received_spans
   pub delivered_spans : report.spans.delivered ≡ kept.counts.delivered_spans
   pub lost_spans : report.spans.lost ≡ kept.counts.lost_spans
+  pub rejected_spans : report.rejected_spans ≡ kept.counts.rejected_spans
+  pub unwritten_names : report.unwritten_names ≡ kept.counts.unwritten_names
+  pub refusals : report.refusals ≡ kept.counts.refusals
   pub attempts : report.attempts ≡ kept.counts.attempts
   pub failed : report.has_failed ≡ kept.has_failed

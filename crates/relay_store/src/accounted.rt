@@ -221,6 +221,16 @@ impl<J: Naming, D: Device> Accounted<J, D> {
         ended
     }
 
+    /// Notes how many names of lost spans are not written, as a report says.
+    pub fn set_unwritten(&mut self, names: u64) {
+        self.keeping.set_unwritten(names);
+    }
+
+    /// Notes how many requests in a row the collector refused whatever they had, as a report says.
+    pub fn set_refusals(&mut self, refusals: u64) {
+        self.keeping.set_refusals(refusals);
+    }
+
     /// Takes the spool out, to open it again where it has failed.
     pub(crate) fn take_spool(&mut self) -> Option<Spool<D>> {
         self.keeping.take_spool()
@@ -284,6 +294,11 @@ impl<J: Naming, D: Device> Accounted<J, D> {
         ensures { result ≡ self.now.has_failed }
     {
         self.keeping.has_failed()
+    }
+
+    /// Whether bodies are kept in a spool.
+    pub(crate) fn is_spooled(&self) -> bool {
+        self.keeping.is_spooled()
     }
 
     /// How many bytes a batch has at most, unless it is a single body.

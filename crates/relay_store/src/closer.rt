@@ -4,7 +4,7 @@ ghost use Rattle.relay_store.specs.Handlers.{GivesUp};
 
 use crate::account::Account;
 use crate::accounted::Accounted;
-use crate::sender::note;
+use crate::sender::{is_named, note};
 use account_book::Naming;
 use relay_queue::{LostSink, name_ended};
 use retry_core::Fate;
@@ -55,6 +55,7 @@ impl<J: Naming> Closer<J> {
         let ended = hold.give_up(&mut self.account);
         drop(hold);
         name_ended(&ended.bodies, Fate::Abandoned, sink);
+        let _ = is_named(&ended, Fate::Abandoned, sink);
         note(rt, kept, &ended, Fate::Abandoned);
     }
 }

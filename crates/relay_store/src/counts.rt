@@ -13,12 +13,18 @@ pub(crate) struct Counts {
     pub(crate) lost: u64,
     /// Spans of bodies that were received.
     pub(crate) received_spans: u64,
-    /// Spans of bodies that were delivered.
+    /// Spans of bodies that were delivered, but for those that were rejected.
     pub(crate) delivered_spans: u64,
+    /// Spans that were rejected of bodies that were delivered.
+    pub(crate) rejected_spans: u64,
     /// Spans of bodies that are lost.
     pub(crate) lost_spans: u64,
     /// Batches that were taken to be sent.
     pub(crate) attempts: u64,
+    /// Names of lost spans that are not written, since that failed.
+    pub(crate) unwritten_names: u64,
+    /// Requests in a row that the collector refused whatever they had.
+    pub(crate) refusals: u64,
 }
 
 impl Counts {
@@ -36,15 +42,17 @@ impl Counts {
         self.attempts = self.attempts.saturating_add(1);
     }
 
-    /// Bodies with so many spans ended.
-    pub(crate) fn end(&mut self, is_loss: bool, spans: u64)
-        ensures { self.new ≡ with_ended is_loss spans self.old }
+    /// Bodies with so many spans ended, of which so many were rejected if they were delivered.
+    pub(crate) fn end(&mut self, is_loss: bool, spans: u64, rejected: u64)
+        ensures { self.new ≡ with_ended is_loss spans rejected self.old }
     {
         if is_loss {
             self.lost_spans = self.lost_spans.saturating_add(spans);
-        } else {
-            self.delivered_spans = self.delivered_spans.saturating_add(spans);
+            return;
         }
+        let taken = spans.saturating_sub(rejected);
+        self.delivered_spans = self.delivered_spans.saturating_add(taken);
+        self.rejected_spans = self.rejected_spans.saturating_add(rejected);
     }
 
     /// A desk with these counts is no longer there.

@@ -487,16 +487,34 @@ impl<D: Device> Keeping<D> {
         ensures only { self.new ≡ record self.old {
           spool = self.new.spool;
           has_failed = self.new.has_failed;
-          counts = with_ended spans.old.is_loss spans.old.count
+          counts = with_ended spans.old.is_loss spans.old.count spans.old.rejected
               (with_received spans.old.earlier self.old.counts);
         } }
     {
         keep_newest(&mut self.lost, &mut spans.newest);
         self.counts.receive(spans.earlier);
-        self.counts.end(spans.is_loss, spans.count);
+        self.counts.end(spans.is_loss, spans.count, spans.rejected);
         if self.is_spooled && !self.has_failed {
             self.has_failed = note_into(self.alloc, &mut self.spool, self.first);
         }
+    }
+
+    /// Notes how many names of lost spans are not written, since that failed.
+    pub fn set_unwritten(&mut self, names: u64)
+        ensures { self.new ≡ record self.old {
+          counts = record self.old.counts { unwritten_names = names };
+        } }
+    {
+        self.counts.unwritten_names = names;
+    }
+
+    /// Notes how many requests in a row the collector refused whatever they had.
+    pub fn set_refusals(&mut self, refusals: u64)
+        ensures { self.new ≡ record self.old {
+          counts = record self.old.counts { refusals = refusals };
+        } }
+    {
+        self.counts.refusals = refusals;
     }
 
     /// Takes the spool out, to open it again where it has failed. Until it is given back nothing is
@@ -608,7 +626,8 @@ impl<D: Device> Keeping<D> {
         ensures { IsReport self.now result }
     {
         let counts = &self.counts;
-        let ended_spans = counts.delivered_spans.saturating_add(counts.lost_spans);
+        let taken = counts.delivered_spans.saturating_add(counts.rejected_spans);
+        let ended_spans = taken.saturating_add(counts.lost_spans);
         Report {
             bodies: self.body_amounts(),
             spans: Amounts {
@@ -617,8 +636,11 @@ impl<D: Device> Keeping<D> {
                 delivered: counts.delivered_spans,
                 lost: counts.lost_spans,
             },
+            rejected_spans: counts.rejected_spans,
+            unwritten_names: counts.unwritten_names,
             waiting_bytes: self.kept_bytes(),
             attempts: counts.attempts,
+            refusals: counts.refusals,
             has_failed: self.has_failed,
         }
     }

@@ -30,6 +30,17 @@ fn name_of(alloc: Global, trace: &[u8], span: &[u8], loss: Loss) -> Result<LostS
     })
 }
 
+/// How many of so many spans were rejected by a fate (OTLP Specification, "Partial Success"). A
+/// collector that says more than there are rejected all of them.
+fn rejected_by(fate: Fate, count: u64) -> u64
+    ensures { result ≤ count }
+{
+    match fate {
+        Fate::Partial(rejected) => u64::try_from(rejected).unwrap_or(0).min(count),
+        _ => 0,
+    }
+}
+
 /// A copy of the name of a span.
 fn copy_of(alloc: Global, name: &LostSpan) -> Result<LostSpan, AllocError> {
     name_of(alloc, &name.trace, &name.span, name.loss)
@@ -46,6 +57,8 @@ pub struct EndedSpans {
     pub count: u64,
     /// How many of them are in bodies that an earlier run received.
     pub earlier: u64,
+    /// How many of them the collector rejected, where it took the bodies: all of them at most.
+    pub rejected: u64,
     /// The newest names of those that are lost. A name for which memory was refused isn't there.
     pub(crate) newest: VecDeque<LostSpan>,
 }
@@ -59,6 +72,7 @@ impl EndedSpans {
             is_loss: is_loss(fate),
             count: 0,
             earlier: 0,
+            rejected: 0,
             newest: VecDeque::new(ended.alloc),
         };
         let mut left = ended.earlier;
@@ -69,6 +83,7 @@ impl EndedSpans {
                 spans.earlier = spans.count;
             }
         }
+        spans.rejected = rejected_by(fate, spans.count);
         spans
     }
 }

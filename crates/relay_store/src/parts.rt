@@ -58,6 +58,7 @@ impl<J: Naming, D: Device> RelayParts<J, D> {
             sender: RelaySender {
                 sender,
                 account: sends,
+                unnamed: None,
             },
             closer: Closer { account: closes },
         }

@@ -1,5 +1,6 @@
 //! What the sender's thread does. Each call takes the lock for what is done at the bodies alone.
-ghost use Rattle.std.specs.Prelude.{◌≡◌, IfOk, IfSome, IsNone, OnErr, true, false};
+ghost use Rattle.std.specs.Prelude.{◌≡◌, IfOk, IfSome, IsNone, List, OnErr, true, false};
+ghost use Rattle.model_body.specs.Names.{LostSpan};
 ghost use Rattle.retry_core.specs.Retries.{next_view};
 ghost use Rattle.relay_queue.specs.Named.{Gains};
 ghost use Rattle.relay_queue.specs.Bodies.{bodies_view};
@@ -13,7 +14,7 @@ use crate::account::Account;
 use crate::accounted::Accounted;
 use crate::{EndedBodies, EndedSpans};
 use account_book::Naming;
-use relay_queue::{BodySender, LostSink, name_ended};
+use relay_queue::{BodySender, LostSink, is_loss, name_ended};
 use retry_core::{Fate, Next, Outcome};
 use span_exporter::Exporter;
 use spool::{Device, Spool, SpoolError};
@@ -36,9 +37,20 @@ pub enum Tried {
     Early(u64),
     /// The last outcome is to be judged first.
     Unjudged,
+    /// The names of bodies that ended could not be written: [`name_again`](RelaySender::name_again)
+    /// is to be called first.
+    Unnamed,
     /// The batch was handed to the exporter, with this outcome, which
     /// [`finish`](RelaySender::finish) judges.
     Came(Outcome),
+}
+
+/// Bodies that ended, and of which it isn't noted in the spool that they did, since the names of
+/// their spans could not be written.
+#[derive(Drop)]
+pub(crate) struct UnnamedBodies {
+    ended: EndedBodies,
+    fate: Fate,
 }
 
 /// What sends the bodies of one relay, with its account. In contracts it is a `Handler`: the
@@ -47,6 +59,7 @@ pub enum Tried {
 pub struct RelaySender<J: Naming> {
     pub(crate) sender: BodySender,
     pub(crate) account: Account<J>,
+    pub(crate) unnamed: Option<UnnamedBodies>,
 }
 
 impl<J: Naming> Model for RelaySender<J> {
@@ -106,6 +119,9 @@ impl<J: Naming> RelaySender<J> {
         if self.sender.is_pending() {
             return Tried::Unjudged;
         }
+        if self.unnamed.is_some() {
+            return Tried::Unnamed;
+        }
         if let Some(from) = self.sender.early(now) {
             return Tried::Early(from);
         }
@@ -155,9 +171,11 @@ impl<J: Naming> RelaySender<J> {
     /// notes what follows, which is the answer: the batch that was sent ended, or it is to be sent
     /// again from a moment on, or each of its bodies is to be sent alone. `None` where no outcome
     /// is to be judged; nothing is changed then. The spans of bodies that are lost by it are named,
-    /// and then it is noted in the spool that the bodies ended: a crash between brings them back,
-    /// so that they are named again, and none is lost without a name. Nothing is named or freed
-    /// while the lock is held. Where all bodies were given up meanwhile, nothing is noted or named.
+    /// and once the sink has synced their names it is noted in the spool that the bodies ended: a
+    /// crash between brings them back, so that they are named again, and none is lost without a
+    /// name. Where the sink could not, with a spool nothing is noted, and nothing more is sent until
+    /// [`name_again`](RelaySender::name_again) has named them. Nothing is named or freed while the
+    /// lock is held. Where all bodies were given up meanwhile, nothing is noted or named.
     /// `word` is a random word, as `retry_core::decide` takes it. (OTLP Specification, "OTLP/HTTP
     /// Response", "OTLP/HTTP Throttling"; profile)
     pub fn finish<R: Wait, D: Device, S: LostSink>(
@@ -178,14 +196,38 @@ impl<J: Naming> RelaySender<J> {
         }
         let mut hold = kept.lock(rt);
         let (next, ended) = hold.settle(&mut self.account, &mut self.sender, now, word);
-        let most = hold.batch_bytes();
+        let (most, is_spooled) = (hold.batch_bytes(), hold.is_spooled());
         drop(hold);
         self.sender.trim(most);
         name_by(&ended.bodies, next, sink);
-        if let Some(fate) = next.fate() {
-            note(rt, kept, &ended, fate);
-        }
+        let unnamed = end_named(rt, kept, ended, next, is_spooled, sink);
+        self.unnamed = unnamed;
         Some(next)
+    }
+
+    /// Names the spans of bodies once more whose names could not be written, if there are such
+    /// bodies, and notes in the spool that they ended once the sink has synced their names. Answers
+    /// whether none is left. A name that was written before is written again.
+    pub fn name_again<R: Wait, D: Device, S: LostSink>(
+        &mut self,
+        rt: &R,
+        kept: &Mutex<Accounted<J, D>>,
+        sink: &mut S,
+    ) -> bool
+        ensures same { self.new ≡ self.old }
+        ensures names { (names : List LostSpan)
+            × Gains names (S.named sink.old) (S.named sink.new) }
+    {
+        let Some(UnnamedBodies { ended, fate }) = self.unnamed.take() else {
+            return true;
+        };
+        name_ended(&ended.bodies, fate, sink);
+        if is_named(&ended, fate, sink) {
+            note(rt, kept, &ended, fate);
+            return true;
+        }
+        self.unnamed = Some(UnnamedBodies { ended, fate });
+        false
     }
 
     /// Whether the spool failed, and wasn't opened again.
@@ -232,6 +274,39 @@ fn name_by<S: LostSink>(bodies: &[Vec<u8>], next: Next, sink: &mut S)
         return;
     };
     name_ended(bodies, fate, sink);
+}
+
+/// Whether the names of the spans of bodies that ended, where they are lost by it, are where they are
+/// to be.
+pub(crate) fn is_named<S: LostSink>(ended: &EndedBodies, fate: Fate, sink: &mut S) -> bool
+    ensures { S.named sink.new ≡ S.named sink.old }
+{
+    if ended.bodies.is_empty() || !is_loss(fate) {
+        return true;
+    }
+    sink.sync()
+}
+
+/// Notes that bodies ended as this follows, if they did, once the names that the sink was given are
+/// where they are to be. Where they aren't, with a spool nothing is noted, and the bodies come back.
+fn end_named<R: Wait, J: Naming, D: Device, S: LostSink>(
+    rt: &R,
+    kept: &Mutex<Accounted<J, D>>,
+    ended: EndedBodies,
+    next: Next,
+    is_spooled: bool,
+    sink: &mut S,
+) -> Option<UnnamedBodies>
+    ensures { S.named sink.new ≡ S.named sink.old }
+{
+    let Some(fate) = next.fate() else {
+        return None;
+    };
+    if !is_named(&ended, fate, sink) && is_spooled {
+        return Some(UnnamedBodies { ended, fate });
+    }
+    note(rt, kept, &ended, fate);
+    None
 }
 
 /// Counts the spans of bodies that ended, whose names were given where they are lost, and notes

@@ -32,8 +32,11 @@ fn a_batch_without_a_reply_is_sent_again_at_its_moment(rt: HostRuntime) {
     let report = Report {
         bodies: amounts(2, 2, 0),
         spans: amounts(1, 1, 0),
+        rejected_spans: 0,
+        unwritten_names: 0,
         waiting_bytes: 0,
         attempts: 2,
+        refusals: 0,
         has_failed: false,
     };
     let no_reply = Outcome::NoReply;
@@ -66,8 +69,11 @@ fn a_refused_body_is_lost_by_name_and_what_is_left_is_given_up(rt: HostRuntime) 
     let report = Report {
         bodies: amounts(4, 1, 3),
         spans: amounts(4, 1, 3),
+        rejected_spans: 0,
+        unwritten_names: 0,
         waiting_bytes: 0,
         attempts: 3,
+        refusals: 0,
         has_failed: false,
     };
     let steps = [
@@ -116,8 +122,11 @@ fn report(received: u64, delivered: u64, lost: u64, waiting_bytes: u64, attempts
     Answer::Reported(Report {
         bodies: amounts(received, delivered, lost),
         spans: amounts(received, delivered, lost),
+        rejected_spans: 0,
+        unwritten_names: 0,
         waiting_bytes,
         attempts,
+        refusals: 0,
         has_failed: false,
     })
 }
