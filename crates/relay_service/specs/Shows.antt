@@ -1,6 +1,7 @@
 -- What a service shows of what became of what it received. (RFC 9110, sections 9.3.1, 15.5.5,
 -- 15.5.6 and 15.6.4; which paths: profile)
 use Rattle.std.specs.Prelude.{◌≡◌, ℕ, ◌∷◌, ◌||◌, Bool, true, false, if◌then◌else◌, List, [], codes}
+use Rattle.std.specs.Prelude.{nat_lt}
 use Rattle.std.specs.Prelude.{bytes_eq, ◌++◌, Option, Some, None}
 use Rattle.http.specs.declared.request.Parts.{Parts as Head}
 use Rattle.http_server.specs.declared.response.Response.{Response}
@@ -27,13 +28,19 @@ page_of path =
     else if bytes_eq path (codes "/api/lost") then Some pages.Lost
     else None
 
--- whether the service is well: the status, and the words of a line
-abbrev pub health_code : Bool → ℕ
-health_code has_failed = if has_failed then 503 else 200
+-- Whether the service is well, by whether what keeps traces failed, and whether the collector
+-- refuses whatever it is sent: the status, and the words of a line.
+abbrev pub health_code : Bool → Bool → ℕ
+health_code has_failed refuses = if has_failed then 503 else if refuses then 503 else 200
 
-abbrev pub health_words : Bool → List ℕ
-health_words has_failed =
-    if has_failed then codes "what keeps traces has failed" else codes "ok"
+abbrev pub health_words : Bool → Bool → List ℕ
+health_words has_failed refuses =
+    if has_failed then codes "what keeps traces has failed"
+    else if refuses then codes "the collector refuses whatever it is sent"
+    else codes "ok"
+
+abbrev pub refuses : Report → Bool
+refuses report = nat_lt 0 report.refusals
 
 -- so many lost spans are listed at most
 abbrev pub MOST_LISTED : ℕ
@@ -51,8 +58,8 @@ module _ {K : Type 0} (reports : Reporting K) (names : Naming K) (keeper : K) (h
   -- A page shows what the keeper reports, or the lost spans that it names.
   abbrev pub ShowsPage : Page → Response → Type 0
   ShowsPage pages.Health response = (report : Report) × reports keeper report
-      × IsPage (health_code (has_failed || report.has_failed)) formats.Text
-      (health_words (has_failed || report.has_failed) ++ 10 ∷ []) response
+      × IsPage (health_code (has_failed || report.has_failed) (refuses report)) formats.Text
+      (health_words (has_failed || report.has_failed) (refuses report) ++ 10 ∷ []) response
   ShowsPage pages.Metrics response = (report : Report) × reports keeper report
       × IsPage 200 formats.Prometheus (metrics_text report connections) response
   ShowsPage pages.Stats response = (report : Report) × (body : List ℕ) × reports keeper report

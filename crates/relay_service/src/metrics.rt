@@ -1,7 +1,8 @@
 //! What became of what was received, as Prometheus reads it.
 
 ghost use Rattle.std.specs.Prelude.{◌≡◌, ◌++◌, OnOk, string_bytes};
-ghost use Rattle.relay_service.specs.Stats.{body_metrics, metrics_text, span_metrics};
+ghost use Rattle.relay_service.specs.Stats.{body_metrics, metrics_text, nameless_metrics};
+ghost use Rattle.relay_service.specs.Stats.{span_metrics};
 
 use otlp_receiver::push_metric;
 use relay_queue::{Amounts, Report};
@@ -81,6 +82,32 @@ fn push_span_metrics<A: Allocator>(out: &mut String<A>, amounts: &Amounts) -> Re
     Ok(())
 }
 
+/// Appends the metrics of spans whose names are nowhere.
+#[tactic(auto, unfolding(crate::specs::Stats::nameless_metrics))]
+fn push_nameless_metrics<A: Allocator>(
+    out: &mut String<A>,
+    report: &Report,
+) -> Result<(), AllocError>
+    ensures { OnOk result (string_bytes out.new
+        ≡ string_bytes out.old ++ nameless_metrics report.now) }
+{
+    push_metric(
+        out,
+        "otlp_relay_spans_rejected_total",
+        "Spans that a collector rejected of bodies that it took.",
+        "counter",
+        report.rejected_spans,
+    )?;
+    push_metric(
+        out,
+        "otlp_relay_unwritten_names",
+        "Names of lost spans that are not written, since that failed.",
+        "gauge",
+        report.unwritten_names,
+    )?;
+    Ok(())
+}
+
 /// Appends what became of what was received, and how many connections were taken, as Prometheus
 /// reads it (Prometheus, "Exposition formats", text format 0.0.4).
 ///
@@ -98,6 +125,14 @@ pub fn write_metrics<A: Allocator>(
 {
     push_body_metrics(out, &report.bodies)?;
     push_span_metrics(out, &report.spans)?;
+    push_nameless_metrics(out, report)?;
+    push_metric(
+        out,
+        "otlp_relay_refused_requests",
+        "Requests in a row that the collector refused whatever they had.",
+        "gauge",
+        report.refusals,
+    )?;
     push_metric(
         out,
         "otlp_relay_waiting_bytes",

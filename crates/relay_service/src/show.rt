@@ -27,10 +27,13 @@ use std::alloc::{AllocError, Global};
 const MOST_LISTED: usize = 1_000;
 
 /// The status that says whether the service is well.
-fn health_status(has_failed: bool) -> StatusCode
-    ensures { result ≡ health_code has_failed }
+fn health_status(has_failed: bool, refuses: bool) -> StatusCode
+    ensures { result ≡ health_code has_failed refuses }
 {
     if has_failed {
+        return StatusCode::SERVICE_UNAVAILABLE;
+    }
+    if refuses {
         StatusCode::SERVICE_UNAVAILABLE
     } else {
         StatusCode::OK
@@ -38,26 +41,39 @@ fn health_status(has_failed: bool) -> StatusCode
 }
 
 /// The words that say whether the service is well.
-fn health_words(has_failed: bool) -> &'static str
-    ensures { result.now ≡ health_words has_failed }
+fn health_words(has_failed: bool, refuses: bool) -> &'static str
+    ensures { result.now ≡ health_words has_failed refuses }
 {
     if has_failed {
-        "what keeps traces has failed"
+        return "what keeps traces has failed";
+    }
+    if refuses {
+        "the collector refuses whatever it is sent"
     } else {
         "ok"
     }
 }
 
 /// Makes a blank response say whether the service is well.
-fn fill_health(alloc: Global, response: &mut Response, has_failed: bool) -> Result<(), AllocError>
+fn fill_health(
+    alloc: Global,
+    response: &mut Response,
+    has_failed: bool,
+    refuses: bool,
+) -> Result<(), AllocError>
     requires { IsBlank response.old }
-    ensures { OnOk result (IsPage (health_code has_failed) formats.Text
-        (health_words has_failed ++ 10 ∷ []) response.new) }
+    ensures { OnOk result (IsPage (health_code has_failed refuses) formats.Text
+        (health_words has_failed refuses ++ 10 ∷ []) response.new) }
 {
     let mut body = Vec::new(alloc);
-    body.extend_from_slice(health_words(has_failed).as_bytes())?;
+    body.extend_from_slice(health_words(has_failed, refuses).as_bytes())?;
     body.push(b'\n')?;
-    fill_page(response, health_status(has_failed), Format::Text, body)?;
+    fill_page(
+        response,
+        health_status(has_failed, refuses),
+        Format::Text,
+        body,
+    )?;
     Ok(())
 }
 
@@ -90,7 +106,7 @@ impl<'a, K: BodyKeeper> Viewer<'a, K> {
     {
         let report = self.keeper.report();
         let has_failed = either(self.has_failed, report.has_failed);
-        fill_health(self.alloc, response, has_failed)?;
+        fill_health(self.alloc, response, has_failed, report.refusals > 0)?;
         Ok(())
     }
 

@@ -37,15 +37,18 @@ fn push_report<A: Allocator>(out: &mut Writer<A>, report: &Report) -> Result<(),
     begin(out)?;
     push_amounts(out, "bodies", &report.bodies)?;
     push_amounts(out, "spans", &report.spans)?;
+    push_number(out, "rejectedSpans", report.rejected_spans)?;
+    push_number(out, "unwrittenNames", report.unwritten_names)?;
     push_number(out, "waitingBytes", report.waiting_bytes)?;
     push_number(out, "attempts", report.attempts)?;
+    push_number(out, "refusals", report.refusals)?;
     end(out)?;
     Ok(())
 }
 
 /// What became of what was received, as JSON (profile): an object with the objects `bodies` and
 /// `spans`, each with the numbers `received`, `kept`, `delivered` and `lost`, and with the numbers
-/// `waitingBytes` and `attempts`.
+/// `rejectedSpans`, `unwrittenNames`, `waitingBytes`, `attempts` and `refusals`.
 ///
 /// # Errors
 ///

@@ -11,7 +11,13 @@ returns-clause-tokens g c =
     let s3 = c.push_amounts-2.new.out.tokens in
     let s4 = c.push_number.new.out.tokens in
     let s5 = c.push_number-2.new.out.tokens in
-    appended s0 s5 c.end.new.out.tokens _ _
+    let s6 = c.push_number-3.new.out.tokens in
+    let s7 = c.push_number-4.new.out.tokens in
+    let s8 = c.push_number-5.new.out.tokens in
+    appended s0 s8 c.end.new.out.tokens _ _
+    (appended s0 s7 s8 _ _
+    (appended s0 s6 s7 _ _
+    (appended s0 s5 s6 _ _
     (appended s0 s4 s5 _ _
     (appended s0 s3 s4 _ _
     (appended s0 s2 s3 _ _
@@ -19,4 +25,7 @@ returns-clause-tokens g c =
     c.in_ok-push_amounts-2.ensures.tokens)
     c.in_ok-push_number.ensures.tokens)
     c.in_ok-push_number-2.ensures.tokens)
+    c.in_ok-push_number-3.ensures.tokens)
+    c.in_ok-push_number-4.ensures.tokens)
+    c.in_ok-push_number-5.ensures.tokens)
     c.in_ok-end.ensures.tokens
