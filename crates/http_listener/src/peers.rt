@@ -87,7 +87,8 @@ where
     }
 
     /// Has a round say that the program is to stop once bytes have come at this descriptor, as that
-    /// of standard input, or its end. None of them is read.
+    /// of standard input, or its end. None of them is read here: the program reads them, since they
+    /// would stop the next one that is started with the same pipe.
     ///
     /// # Errors
     ///

@@ -15,13 +15,16 @@ abbrev pub code_of : Denial → ℕ
 code_of denials.BadRequest = 400
 code_of denials.BadBody = 400
 code_of denials.BadCoding = 400
+code_of denials.BadIds = 400
 code_of denials.Host = 403
 code_of denials.NoPath = 404
-code_of denials.TracesOnly = 404
+code_of denials.NoMetrics = 404
+code_of denials.NoLogs = 404
 code_of denials.ExportMethod = 405
 code_of denials.PageMethod = 405
 code_of denials.BodyTooLarge = 413
 code_of denials.TracesTooLarge = 413
+code_of denials.ReadTooLarge = 413
 code_of denials.UriTooLong = 414
 code_of denials.MediaType = 415
 code_of denials.FieldsTooLarge = 431
@@ -38,17 +41,24 @@ message_of denials.BadBody =
     codes "the body can't be read as an ExportTraceServiceRequest of its type"
 message_of denials.BadCoding =
     codes "the body can't be read as a gzip file, as Content-Encoding says"
+message_of denials.BadIds =
+    codes "a span's trace id hasn't 16 bytes, or its span id hasn't 8: collectors refuse it"
 message_of denials.Host =
     codes "this host isn't one of the service's: start it with --host NAME"
 message_of denials.NoPath = codes "no such path: post traces to /v1/traces"
-message_of denials.TracesOnly = codes "traces only: metrics and logs are not taken"
+message_of denials.NoMetrics =
+    codes "only traces are taken here: set OTEL_METRICS_EXPORTER=none"
+message_of denials.NoLogs = codes "only traces are taken here: set OTEL_LOGS_EXPORTER=none"
 message_of denials.ExportMethod = codes "post traces with the method POST"
 message_of denials.PageMethod =
     codes "post traces to /v1/traces: this path is read with the method GET"
 message_of denials.BodyTooLarge =
-    codes "the body is too large: export smaller batches, or raise --max-body"
+    codes "the body is too large: export smaller batches, or raise --max-body or --pending-mb"
 message_of denials.TracesTooLarge =
     codes "more than is kept: export smaller batches, or raise --keep-spans or --keep-mb"
+message_of denials.ReadTooLarge =
+    codes "reading it takes more than may be pending: export smaller batches, or raise "
+    ++ codes "--pending-mb"
 message_of denials.UriTooLong = codes "the target of the request is too long"
 message_of denials.MediaType =
     codes "set the exporter's protocol to http/protobuf or http/json, "
@@ -58,7 +68,9 @@ message_of denials.UnknownCoding = codes "a transfer coding other than chunked i
 message_of denials.KeepFailed = codes "traces can't be kept: the service's disk has failed"
 message_of denials.OutOfMemory = codes "out of memory: try again in a second"
 message_of denials.NoRoom = codes "too much is pending: try again in a second"
-message_of denials.UnknownVersion = codes "send the request by HTTP/1.1"
+message_of denials.UnknownVersion =
+    codes "gRPC isn't taken: set OTEL_EXPORTER_OTLP_PROTOCOL=http/protobuf; requests come "
+    ++ codes "by HTTP/1.1"
 
 -- 405 says which methods are allowed (RFC 9110, section 15.5.6)
 abbrev pub allow_fields : Denial → List Header

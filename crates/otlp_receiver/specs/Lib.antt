@@ -7,5 +7,6 @@ pub mod Formats
 pub mod Hosts
 pub mod Judged
 pub mod Pages
+pub mod Strays
 pub mod Tallies
 pub mod Requests

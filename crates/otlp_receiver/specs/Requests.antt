@@ -9,6 +9,8 @@ use Rattle.http_header.specs.FieldValue.{FieldValue}
 use Rattle.http_header.specs.HeaderMap.{get_all}
 use Rattle.http_uri.specs.Uri.{uri_path}
 use Rattle.otlp_receiver.specs.Hosts.{is_same_word}
+use Rattle.otlp_receiver.specs.declared.reply.denial.Denial.{Denial}
+use Rattle.otlp_receiver.specs.declared.reply.denial.Denial.TheVariants as denials
 use Rattle.otlp_receiver.specs.declared.reply.format.Format.{Format}
 use Rattle.otlp_receiver.specs.declared.reply.format.Format.TheVariants as formats
 
@@ -17,6 +19,13 @@ abbrev pub is_export_path : List ℕ → Bool
 is_export_path path =
     bytes_eq path (codes "/v1/traces")
     || (bytes_eq path (codes "/v1/metrics") || bytes_eq path (codes "/v1/logs"))
+
+-- why a request is refused for the path to which another signal is posted, metrics or logs
+unfoldable pub other_signal : List ℕ → Option Denial
+other_signal path =
+    if bytes_eq path (codes "/v1/metrics") then Some denials.NoMetrics
+    else if bytes_eq path (codes "/v1/logs") then Some denials.NoLogs
+    else None
 
 -- a request for the path to which traces are posted
 abbrev pub is_export_of_traces : HttpRequest (List ℕ) → Bool

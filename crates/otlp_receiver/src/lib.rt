@@ -19,4 +19,6 @@ pub mod reply;
 pub use content::Undecoded;
 pub use metric::{push_help, push_metric, push_sample, push_type};
 pub use post::content_in;
-pub use reading::{Unread, is_above, read_content, size_of_content};
+pub use reading::{
+    Bounds, Unread, is_above, read_content, room_alone, size_denial, size_of_content,
+};

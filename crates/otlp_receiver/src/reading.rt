@@ -5,8 +5,10 @@ ghost use Rattle.model_message.specs.Messages.{meaning};
 ghost use Rattle.model_message.specs.Reading.{Reads};
 ghost use Rattle.model_message.specs.Tables;
 ghost use Rattle.otlp_read.specs.Requests.{request_view};
+ghost use Rattle.otlp_receiver.specs.Reads as spec;
 ghost use Rattle.otlp_receiver.specs.Reads.{IsUnread, is_above, size_of_content, unread_by};
 
+use crate::reply::Denial;
 use otlp_read::{ReadFault, Request, read_request, request_size};
 use std::alloc::Allocator;
 
@@ -69,4 +71,39 @@ pub fn is_above(content: &[u8], room: usize) -> bool
         return false;
     }
     size_of_content(content) > room as u64
+}
+
+/// What bounds the content of a post.
+#[derive(Clone, Copy, Debug, PartialEq, Eq)]
+pub struct Bounds {
+    /// How many bytes it may have.
+    pub max_content: usize,
+    /// How many bytes of requests and answers may be pending, those of all connections together.
+    pub max_pending: usize,
+}
+
+/// A connection holds at most this many bytes beside the body of a request: its head, and what is
+/// read and written. (profile)
+const BESIDE_BODY: usize = 131_072;
+
+/// How many bytes of memory the reading of a content may take where the request with this body is
+/// the only one, and so many bytes may be pending in all. The body counts twice, since what holds
+/// it grows by doubling.
+pub fn room_alone(max_pending: usize, body: &[u8]) -> usize
+    ensures { result ≡ spec.room_alone max_pending body.now }
+{
+    let beside = max_pending.saturating_sub(BESIDE_BODY);
+    beside.saturating_sub(body.len()).saturating_sub(body.len())
+}
+
+/// Why a content isn't read for which there is no room now, where reading it may take `alone` bytes
+/// when nothing else is pending: with 413 it never fits, and with 503 it fits later.
+pub fn size_denial(content: &[u8], alone: usize) -> Denial
+    ensures { result ≡ spec.size_denial content.now alone }
+{
+    if is_above(content, alone) {
+        Denial::ReadTooLarge
+    } else {
+        Denial::NoRoom
+    }
 }

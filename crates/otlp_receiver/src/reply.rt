@@ -2,7 +2,8 @@
 //! be asked, and how many answers it gave.
 //!
 //! [`Hosts`] are the hosts of a service. [`Denial`] says why a request is refused, in which
-//! [`Format`] a response says so. [`Tallies`] count the answers by their status.
+//! [`Format`] a response says so. [`Tallies`] count the answers by their status, and [`Strays`]
+//! say which other signals were posted.
 
 mod denial;
 mod format;
@@ -10,12 +11,14 @@ mod hosts;
 mod judge;
 mod page;
 mod request;
+mod strays;
 mod tally;
 
 pub use denial::{Denial, denial_response, fill_denial, fill_options, fill_taken};
 pub use format::{Format, add_format};
 pub use hosts::{Hosts, asked_host};
-pub use judge::{denial_by, head_denial};
+pub use judge::{denial_by, head_denial, may_ask};
 pub use page::{fill_page, is_read};
-pub use request::{denial_format, is_export, is_export_path, is_json, path_of};
+pub use request::{denial_format, is_export, is_export_path, is_json, other_signal, path_of};
+pub use strays::Strays;
 pub use tally::Tallies;

@@ -5,7 +5,7 @@ use Rattle.http.specs.declared.request.Request.{Request as HttpRequest}
 use Rattle.http_server.specs.declared.response.Response.{Response}
 use Rattle.otlp_receiver.specs.Posts.{post_of}
 use Rattle.relay_service.specs.Receives.{Keeping, Lacking, Receives}
-use Rattle.relay_service.specs.Serves.{Answers, failed_of, keeper_of, max_body_of}
+use Rattle.relay_service.specs.Serves.{Answers, bounds_of, failed_of, keeper_of}
 use Rattle.relay_service.specs.Shows.{AnswersPage, Naming, Reporting}
 use Rattle.relay_service.specs.declared.service.RelayService.{RelayService}
 
@@ -29,11 +29,11 @@ module _ {K : Type 0} (keeps : Keeping K) (lacks_room : Lacking K) (fails : Keep
       Answers.options path method options (keeper ∙ same.0, failed ∙ same.1)
   still_answered (Answers.received path method outcome receives answer fails_by) =
       Answers.received path method outcome
-      (subst (Receives keeps lacks_room fails (keeper_of old) (max_body_of old) (post_of request)
+      (subst (Receives keeps lacks_room fails (keeper_of old) (bounds_of old) (post_of request)
       room outcome)
       (sym keeper) receives)
       answer (failed ∙ fails_by)
-  still_answered (Answers.traces_only path export denial same) =
-      Answers.traces_only path export denial (keeper ∙ same.0, failed ∙ same.1)
-  still_answered (Answers.shown path page same) =
-      Answers.shown path page (keeper ∙ same.0, failed ∙ same.1)
+  still_answered (Answers.not_taken path denial other answer same) =
+      Answers.not_taken path denial other answer (keeper ∙ same.0, failed ∙ same.1)
+  still_answered (Answers.shown path other page same) =
+      Answers.shown path other page (keeper ∙ same.0, failed ∙ same.1)

@@ -2,6 +2,7 @@
 use Rattle.std.proofs.Common.{◌≡◌, ℕ, List, Ok, Err, Result, subst}
 use Rattle.std.specs.Prelude.{OnErr}
 use Rattle.otlp_serve.specs.Posts.{HttpPost}
+use Rattle.otlp_receiver.specs.declared.reading.Bounds.{Bounds}
 use Rattle.otlp_receiver.specs.declared.reply.denial.Denial.{Denial}
 use Rattle.relay_service.specs.Receives.{Keeping, Keeps, Lacking, Receives, ReceivesContent}
 use Rattle.relay_service.specs.declared.receive.Outcome.{Outcome}
@@ -17,20 +18,21 @@ module _ {K : Type 0} (keeps : Keeping K) (lacks_room : Lacking K) (fails : Keep
   keeps_same body (Keeps.failed f o) = cc
 
   -- of a content
-  content_same : (content : List ℕ) (room : ℕ)
-      → ReceivesContent keeps lacks_room fails old content room outcome new → new ≡ old
-  content_same content room (ReceivesContent.recalled r k o) = cc
-  content_same content room (ReceivesContent.no_room a o same) = same
-  content_same content room (ReceivesContent.unread a u o same) = same
-  content_same content room (ReceivesContent.no_memory a u o same) = same
-  content_same content room (ReceivesContent.read a r k) = keeps_same content k
+  content_same : (content : List ℕ) (room alone : ℕ)
+      → ReceivesContent keeps lacks_room fails old content room alone outcome new → new ≡ old
+  content_same content room alone (ReceivesContent.recalled r k o) = cc
+  content_same content room alone (ReceivesContent.no_room a o same) = same
+  content_same content room alone (ReceivesContent.unread a u o same) = same
+  content_same content room alone (ReceivesContent.no_memory a u o same) = same
+  content_same content room alone (ReceivesContent.bad_ids a r h o same) = same
+  content_same content room alone (ReceivesContent.read a r h k) = keeps_same content k
 
   -- A post that is refused leaves what keeps bodies as it was.
-  pub unchanged : (most : ℕ) (post : HttpPost) (room : ℕ)
-      → Receives keeps lacks_room fails old most post room outcome new → new ≡ old
-  unchanged most post room (Receives.denied r d o same) = same
-  unchanged most post room (Receives.no_memory t o same) = same
-  unchanged most post room (Receives.received content h r) = content_same content room r
+  pub unchanged : (bounds : Bounds) (post : HttpPost) (room : ℕ)
+      → Receives keeps lacks_room fails old bounds post room outcome new → new ≡ old
+  unchanged bounds post room (Receives.denied r d o same) = same
+  unchanged bounds post room (Receives.no_memory t o same) = same
+  unchanged bounds post room (Receives.received content h r) = content_same content room _ r
 
 -- What becomes of a copy becomes of what it is a copy of.
 pub keeps_copy : {K : Type 0} (keeps : Keeping K) (lacks_room : Lacking K) (fails : Keeping K)

@@ -7,13 +7,12 @@ use Rattle.http_connection.specs.Turns.{Turn, Admitted, Rejected, Answered, Refu
 use Rattle.http_server.specs.declared.response.Response.{Response}
 use Rattle.http_uri.specs.Uri.{uri_path}
 use Rattle.otlp_receiver.specs.Denials.{IsDenial, IsOptions}
-use Rattle.otlp_receiver.specs.Hosts.{allows_head}
-use Rattle.otlp_receiver.specs.Judged.{denial_by, head_denial}
+use Rattle.otlp_receiver.specs.Judged.{denial_by, head_denial, may_ask}
 use Rattle.otlp_receiver.specs.Requests.{asks_for_methods, denial_format, is_export_of_traces}
-use Rattle.otlp_receiver.specs.Requests.{is_export_path}
+use Rattle.otlp_receiver.specs.Requests.{other_signal}
 use Rattle.otlp_receiver.specs.Tallies.{CountsAnswer, Tally}
 use Rattle.otlp_receiver.specs.declared.reply.denial.Denial.{Denial}
-use Rattle.otlp_receiver.specs.declared.reply.denial.Denial.TheVariants as denials
+use Rattle.otlp_receiver.specs.declared.reading.Bounds.{Bounds}
 use Rattle.otlp_receiver.specs.Posts.{IsAnswer, post_of}
 use Rattle.relay_service.specs.Receives.{Collects, Keeping, Lacking, Receives, denial_of}
 use Rattle.relay_service.specs.Receives.{is_failure}
@@ -31,9 +30,9 @@ module _ {K : Type 0} where
   abbrev pub hosts_of : RelayService K → List (List ℕ)
   hosts_of service = service.hosts
 
-  -- how many bytes the content of a request may have
-  abbrev pub max_body_of : RelayService K → ℕ
-  max_body_of service = service.max_body
+  -- what bounds the content of a request
+  abbrev pub bounds_of : RelayService K → Bounds
+  bounds_of service = service.bounds
 
   -- what it has counted
   abbrev pub tally_of : RelayService K → Tally
@@ -44,26 +43,26 @@ module _ {K : Type 0} where
   failed_of service = service.has_failed
 
 -- A service has given one more answer, with this status, which it counted. Under the same hosts it
--- takes contents of the same size.
+-- takes contents within the same bounds.
 pub record HasAnswered {K : Type 0} (old new : RelayService K) (status : ℕ) : Type 0 where
   pub counted : CountsAnswer (tally_of old) (tally_of new) status
   pub hosts : hosts_of new ≡ hosts_of old
-  pub max_body : max_body_of new ≡ max_body_of old
+  pub bounds : bounds_of new ≡ bounds_of old
 
 -- Nothing was answered: only what keeps the bodies has changed, which has collected some, or kept
 -- those that it had collected.
 pub record IsBeside {K : Type 0} (old new : RelayService K) : Type 0 where
   pub tallies : tally_of new ≡ tally_of old
   pub hosts : hosts_of new ≡ hosts_of old
-  pub max_body : max_body_of new ≡ max_body_of old
+  pub bounds : bounds_of new ≡ bounds_of old
   pub failed : failed_of new ≡ failed_of old
 
 -- A request was shown, of which what keeps the bodies may have collected the content.
 pub record GathersFor {K : Type 0} (collects_body : Keeping K) (old : RelayService K)
     (request : HttpRequest (List ℕ)) (new : RelayService K) : Type 0 where
   pub beside : IsBeside old new
-  pub collects : Collects collects_body (keeper_of old) (max_body_of old) (post_of request)
-      (keeper_of new)
+  pub collects : Collects collects_body (keeper_of old) (bounds_of old).max_content
+      (post_of request) (keeper_of new)
 
 -- What keeps the bodies may have kept those that it had collected.
 pub record SettlesBy {K : Type 0} (keeps_collected : K → K → Type 0) (old new : RelayService K)
@@ -87,16 +86,17 @@ module _ {K : Type 0} (keeps : Keeping K) (lacks_room : Lacking K) (fails : Keep
         → IsOptions response → IsAsBefore old new → Answers old request room response new
     received : is_export_of_traces request ≡ true → asks_for_methods request ≡ false
         → (outcome : Outcome)
-        → Receives keeps lacks_room fails (keeper_of old) (max_body_of old) (post_of request) room
+        → Receives keeps lacks_room fails (keeper_of old) (bounds_of old) (post_of request) room
         outcome (keeper_of new)
         → IsAnswer (denial_of outcome) (denial_format (Some (head_of request))) response
         → failed_of new ≡ (failed_of old || is_failure outcome)
         → Answers old request room response new
-    traces_only : is_export_of_traces request ≡ false
-        → is_export_path (uri_path (head_of request).uri) ≡ true
-        → IsDenial denials.TracesOnly (denial_format (Some (head_of request))) response
+    not_taken : is_export_of_traces request ≡ false → (denial : Denial)
+        → other_signal (uri_path (head_of request).uri) ≡ Some denial
+        → IsDenial denial (denial_format (Some (head_of request))) response
         → IsAsBefore old new → Answers old request room response new
-    shown : is_export_path (uri_path (head_of request).uri) ≡ false
+    shown : is_export_of_traces request ≡ false
+        → other_signal (uri_path (head_of request).uri) ≡ None
         → AnswersPage reports names (keeper_of old) (failed_of old) (tally_of old).connections
         (head_of request) response
         → IsAsBefore old new → Answers old request room response new
@@ -105,7 +105,7 @@ module _ {K : Type 0} (keeps : Keeping K) (lacks_room : Lacking K) (fails : Keep
   -- is counted.
   abbrev pub Serves : RelayService K → Turn NoPieces → RelayService K → Type 0
   Serves old (Admitted head) new =
-      (allows_head (hosts_of old) (head_of head) ≡ true) × (new ≡ old)
+      (may_ask (hosts_of old) (head_of head) ≡ true) × (new ≡ old)
   Serves old (Rejected head response) new = (body : Option ℕ) × (room : ℕ) × (denial : Denial)
       × (head_denial (hosts_of old) (head_of head) body room ≡ Some denial)
       × IsDenial denial (denial_format (Some (head_of head))) response

@@ -17,7 +17,7 @@ mod stats;
 
 pub use lost::write_lost;
 pub use metrics::write_metrics;
-pub use otlp_receiver::reply::{Denial, Format, Hosts, Tallies};
+pub use otlp_receiver::reply::{Denial, Format, Hosts, Strays, Tallies};
 pub use route::{Page, route_of};
 pub use service::{NoPieces, RelayService};
 pub use stats::write_stats;

@@ -7,7 +7,10 @@ ghost use Rattle.model_body.specs.Names.{IsReadable, spans_in};
 ghost use Rattle.otlp_receiver.specs.Posts.{IsAnswer, post_of};
 ghost use Rattle.otlp_receiver.specs.Reads.{IsUnread};
 ghost use Rattle.relay_service.specs.Receives.{Collects, Keeps, Receives, ReceivesContent, denial_of};
-ghost use Rattle.relay_service.specs.Receives.{is_failure};
+ghost use Rattle.relay_service.specs.Receives as spec;
+ghost use Rattle.relay_service.specs.Receives.{have_ids, is_failure};
+ghost use Rattle.otlp_read.specs.Triples.{triple_view};
+ghost use Rattle.std.specs.List.{list_all};
 ghost use Rattle.http.specs.Request.{head_of};
 ghost use Rattle.otlp_receiver.specs.Requests.{denial_format};
 
@@ -15,10 +18,13 @@ use bumpalo::Bump;
 use bytes::Bytes;
 use http::Request;
 use http_server::Response;
+use otlp_read::Triple;
 use otlp_receiver::reply::{
     Denial, Format, denial_format, denial_response, fill_denial, fill_taken,
 };
-use otlp_receiver::{Undecoded, Unread, content_in, is_above, read_content};
+use otlp_receiver::{
+    Bounds, Undecoded, Unread, content_in, is_above, read_content, room_alone, size_denial,
+};
 use relay_queue::{BodyKeeper, KeepFault};
 use std::alloc::{AllocError, Allocator, Global};
 
@@ -40,10 +46,34 @@ pub(crate) enum Outcome {
     Failed,
 }
 
-/// How many spans a content has, or why it isn't read, in memory of this allocator.
-fn count_in<A: Allocator + Copy>(alloc: A, content: &[u8]) -> Result<usize, Unread>
+/// What is known of the spans of a content.
+#[derive(Clone, Copy, Debug, PartialEq, Eq)]
+struct Census {
+    /// How many they are.
+    spans: usize,
+    /// Whether each has a trace id of 16 bytes and a span id of 8.
+    has_ids: bool,
+}
+
+/// Whether a span has a trace id of 16 bytes and a span id of 8 (trace.proto: Span).
+fn has_ids<A: Allocator>(span: &Triple<'_, A>) -> bool
+    ensures { result ≡ spec.has_ids (triple_view span.now) }
+{
+    span.span.trace_id.len() == 16 && span.span.span_id.len() == 8
+}
+
+/// Whether each of these spans has.
+fn have_ids<A: Allocator>(spans: &[Triple<'_, A>]) -> bool
+    ensures { result ≡ list_all (λ span. spec.has_ids (triple_view span)) spans.now }
+{
+    spans.iter().all(|span| has_ids(span))
+}
+
+/// What is known of the spans of a content, or why it isn't read, in memory of this allocator.
+fn count_in<A: Allocator + Copy>(alloc: A, content: &[u8]) -> Result<Census, Unread>
     ensures readable { OnOk result (IsReadable content.now) }
-    ensures count { IfOk result (λ count. count ≡ length (spans_in content.now)) }
+    ensures count { IfOk result (λ census. census.spans ≡ length (spans_in content.now)) }
+    ensures ids { IfOk result (λ census. census.has_ids ≡ have_ids content.now) }
     ensures unread { IfErr result (IsUnread content.now) }
 {
     let request = match read_content(alloc, content) {
@@ -51,16 +81,23 @@ fn count_in<A: Allocator + Copy>(alloc: A, content: &[u8]) -> Result<usize, Unre
         Err(why) => return Err(why),
     };
     match request.triples() {
-        Ok(spans) => Ok(spans.as_slice().len()),
+        Ok(found) => {
+            let spans = found.as_slice();
+            Ok(Census {
+                spans: spans.len(),
+                has_ids: have_ids(spans),
+            })
+        }
         Err(_) => Err(Unread::OutOfMemory),
     }
 }
 
-/// How many spans a content has, or why it isn't read. It is read in an arena, so that all that it
-/// is read as is freed at once.
-fn count_spans(alloc: Global, content: &[u8]) -> Result<usize, Unread>
+/// What is known of the spans of a content, or why it isn't read. It is read in an arena, so that
+/// all that it is read as is freed at once.
+fn count_spans(alloc: Global, content: &[u8]) -> Result<Census, Unread>
     ensures readable { OnOk result (IsReadable content.now) }
-    ensures count { IfOk result (λ count. count ≡ length (spans_in content.now)) }
+    ensures count { IfOk result (λ census. census.spans ≡ length (spans_in content.now)) }
+    ensures ids { IfOk result (λ census. census.has_ids ≡ have_ids content.now) }
     ensures unread { IfErr result (IsUnread content.now) }
 {
     let room = content.len().saturating_mul(ARENA_FOR_BYTE).min(ARENA_MOST);
@@ -105,57 +142,68 @@ fn keep_copy<K: BodyKeeper>(alloc: Global, keeper: &mut K, content: &[u8], spans
 }
 
 /// Keeps the content of a post, unless it was kept together with others, where so many bytes may
-/// still be pending.
+/// still be pending, and reading it may take `alone` bytes when nothing else is.
 fn keep_content<K: BodyKeeper>(
     alloc: Global,
     keeper: &mut K,
     content: &[u8],
     room: usize,
+    alone: usize,
 ) -> Outcome
-    ensures { ReceivesContent K.keeps K.lacks_room K.fails keeper.old content.now room result
-        keeper.new }
+    ensures { ReceivesContent K.keeps K.lacks_room K.fails keeper.old content.now room alone
+        result keeper.new }
 {
     if keeper.recall(content) {
         return Outcome::Kept;
     }
-    keep_alone(alloc, keeper, content, room)
+    keep_alone(alloc, keeper, content, room, alone)
 }
 
-/// Keeps the content of a post, where so many bytes may still be pending.
-fn keep_alone<K: BodyKeeper>(alloc: Global, keeper: &mut K, content: &[u8], room: usize) -> Outcome
-    ensures { ReceivesContent K.keeps K.lacks_room K.fails keeper.old content.now room result
-        keeper.new }
+/// Keeps the content of a post, where so many bytes may still be pending, and reading it may take
+/// `alone` bytes when nothing else is.
+fn keep_alone<K: BodyKeeper>(
+    alloc: Global,
+    keeper: &mut K,
+    content: &[u8],
+    room: usize,
+    alone: usize,
+) -> Outcome
+    ensures { ReceivesContent K.keeps K.lacks_room K.fails keeper.old content.now room alone
+        result keeper.new }
 {
     if is_above(content, room) {
-        return Outcome::Denied(Denial::NoRoom);
+        return Outcome::Denied(size_denial(content, alone));
     }
-    match count_spans(alloc, content) {
-        Ok(spans) => keep_copy(alloc, keeper, content, spans),
-        Err(Unread::Fault) => Outcome::Denied(Denial::BadBody),
-        Err(Unread::OutOfMemory) => Outcome::Denied(Denial::OutOfMemory),
+    let census = match count_spans(alloc, content) {
+        Ok(census) => census,
+        Err(Unread::Fault) => return Outcome::Denied(Denial::BadBody),
+        Err(Unread::OutOfMemory) => return Outcome::Denied(Denial::OutOfMemory),
+    };
+    if !census.has_ids {
+        return Outcome::Denied(Denial::BadIds);
     }
+    keep_copy(alloc, keeper, content, census.spans)
 }
 
-/// Keeps what a post of spans carries, whose content may have at most `most` bytes, where so many
-/// bytes may still be pending.
+/// Keeps what a post of spans carries, whose content is within these bounds, where so many bytes
+/// may still be pending.
 fn keep_post<K: BodyKeeper>(
     alloc: Global,
     keeper: &mut K,
     request: &Request<Bytes>,
-    most: usize,
+    bounds: Bounds,
     room: usize,
 ) -> Outcome
-    ensures { Receives K.keeps K.lacks_room K.fails keeper.old most (post_of request.now) room
+    ensures { Receives K.keeps K.lacks_room K.fails keeper.old bounds (post_of request.now) room
         result keeper.new }
 {
-    match content_in(alloc, request, most) {
-        Ok(None) => {
-            let content = request.body().as_slice();
-            keep_content(alloc, keeper, content, room)
-        }
+    let body = request.body().as_slice();
+    let alone = room_alone(bounds.max_pending, body);
+    match content_in(alloc, request, bounds.max_content) {
+        Ok(None) => keep_content(alloc, keeper, body, room, alone),
         Ok(Some(content)) => {
             let content = content.as_slice();
-            keep_content(alloc, keeper, content, room)
+            keep_content(alloc, keeper, content, room, alone)
         }
         Err(Undecoded::Denied(denial)) => Outcome::Denied(denial),
         Err(Undecoded::OutOfMemory) => Outcome::Denied(Denial::OutOfMemory),
@@ -182,10 +230,12 @@ fn collect_content<K: BodyKeeper>(alloc: Global, keeper: &mut K, content: &[u8],
     if !has_room {
         return;
     }
-    let Ok(spans) = count_spans(alloc, content) else {
+    let Ok(census) = count_spans(alloc, content) else {
         return;
     };
-    collect_copy(alloc, keeper, content, spans);
+    if census.has_ids {
+        collect_copy(alloc, keeper, content, census.spans);
+    }
 }
 
 /// Collects what a request carries, if it is a post of spans, whose content may have at most `most`
@@ -217,8 +267,8 @@ fn taken(alloc: Global, format: Format) -> Result<Response, AllocError>
 }
 
 /// Makes a blank response the answer to a request to receive spans (OTLP Specification, "OTLP/HTTP
-/// Request"), whose content may have at most `most` bytes, and answers what became of it. Only where
-/// its content was read, and the keeper has kept just that, it is 200.
+/// Request"), whose content is within these bounds, and answers what became of it. Only where its
+/// content was read, and the keeper has kept just that, it is 200.
 ///
 /// # Errors
 ///
@@ -227,12 +277,12 @@ pub(crate) fn receive<K: BodyKeeper>(
     alloc: Global,
     keeper: &mut K,
     request: &Request<Bytes>,
-    most: usize,
+    bounds: Bounds,
     room: usize,
     response: &mut Response,
 ) -> Result<Outcome, AllocError>
     requires { IsBlank response.old }
-    ensures received { IfOk result (λ outcome. Receives K.keeps K.lacks_room K.fails keeper.old most
+    ensures received { IfOk result (λ outcome. Receives K.keeps K.lacks_room K.fails keeper.old bounds
         (post_of request.now) room outcome keeper.new) }
     ensures answer { IfOk result (λ outcome. IsAnswer (denial_of outcome)
         (denial_format (Some (head_of request.now))) response.new) }
@@ -242,7 +292,7 @@ pub(crate) fn receive<K: BodyKeeper>(
     // After the keeper has kept a body, or has failed, nothing may fail: these are made before.
     let taken = taken(alloc, format)?;
     let failed = denial_response(alloc, Denial::KeepFailed, format)?;
-    let outcome = keep_post(alloc, keeper, request, most, room);
+    let outcome = keep_post(alloc, keeper, request, bounds, room);
     match outcome {
         Outcome::Kept => {
             *response = taken;

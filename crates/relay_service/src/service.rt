@@ -7,7 +7,7 @@ ghost use Rattle.http_connection.specs.Heads.{head_in};
 ghost use Rattle.otlp_receiver.specs.Requests.{denial_format};
 ghost use Rattle.otlp_receiver.specs.Tallies.{MOST};
 ghost use Rattle.relay_service.specs.Serves.{Answers, HasAnswered, failed_of, hosts_of, keeper_of};
-ghost use Rattle.relay_service.specs.Serves.{max_body_of, tally_of};
+ghost use Rattle.relay_service.specs.Serves.{bounds_of, tally_of};
 
 use crate::receive::{collect, either, is_failure, receive};
 use crate::show::Viewer;
@@ -15,9 +15,10 @@ use bytes::Bytes;
 use http::Request;
 use http_connection::{Gathers, Pieces, Refusal, Service};
 use http_server::Response;
+use otlp_receiver::Bounds;
 use otlp_receiver::reply::{
-    Denial, Hosts, Tallies, denial_by, denial_format, fill_denial, fill_options, head_denial,
-    is_export_path, path_of,
+    Denial, Hosts, Strays, Tallies, denial_by, denial_format, fill_denial, fill_options,
+    head_denial, other_signal, path_of,
 };
 use relay_queue::BodyKeeper;
 use std::alloc::{AllocError, Global};
@@ -51,9 +52,9 @@ pub struct RelayService<K> {
     alloc: Global,
     keeper: K,
     hosts: Hosts,
-    // How many bytes the content of a request may have.
-    max_body: usize,
+    bounds: Bounds,
     tallies: Tallies,
+    strays: Strays,
     // Whether the keeper failed to keep a body.
     has_failed: bool,
 }
@@ -66,7 +67,8 @@ impl<K> RelayService<K> {
     pub fn new(alloc: Global, keeper: K, hosts: Hosts, max_body: usize) -> RelayService<K>
         ensures keeper { keeper_of result ≡ keeper }
         ensures hosts { hosts_of result ≡ hosts }
-        ensures max_body { max_body_of result ≡ max_body }
+        ensures bounds { bounds_of result
+            ≡ record { max_content = max_body; max_pending = usize.MAX } }
         ensures tallies { tally_of result
             ≡ record { connections = 0; answers = replicate 900 0 } }
         ensures failed { failed_of result ≡ false }
@@ -75,10 +77,27 @@ impl<K> RelayService<K> {
             alloc,
             keeper,
             hosts,
-            max_body,
+            bounds: Bounds {
+                max_content: max_body,
+                max_pending: usize::MAX,
+            },
             tallies: Tallies::new(),
+            strays: Strays::new(),
             has_failed: false,
         }
+    }
+
+    /// The same, where so many bytes may be pending in all: a post that could not be read even alone
+    /// is then refused as one that never fits. Without this it is refused as one that fits later.
+    pub fn with_max_pending(mut self, max_pending: usize) -> RelayService<K>
+        ensures bounds { bounds_of result ≡ record (bounds_of self) { max_pending = max_pending } }
+        ensures keeper { keeper_of result ≡ keeper_of self }
+        ensures hosts { hosts_of result ≡ hosts_of self }
+        ensures tallies { tally_of result ≡ tally_of self }
+        ensures failed { failed_of result ≡ failed_of self }
+    {
+        self.bounds.max_pending = max_pending;
+        self
     }
 
     /// What keeps its bodies.
@@ -95,6 +114,11 @@ impl<K> RelayService<K> {
         &self.tallies
     }
 
+    /// Which signals beside traces it was asked to receive.
+    pub fn strays(&self) -> Strays {
+        self.strays
+    }
+
     /// Whether its keeper failed to keep a body.
     pub fn has_failed(&self) -> bool
         ensures { result ≡ failed_of self.now }
@@ -109,7 +133,7 @@ impl<K> RelayService<K> {
         ensures answers { (tally_of self.new).answers ≡ (tally_of self.old).answers }
         ensures keeper { keeper_of self.new ≡ keeper_of self.old }
         ensures hosts { hosts_of self.new ≡ hosts_of self.old }
-        ensures max_body { max_body_of self.new ≡ max_body_of self.old }
+        ensures bounds { bounds_of self.new ≡ bounds_of self.old }
         ensures failed { failed_of self.new ≡ failed_of self.old }
     {
         self.tallies.count_connection();
@@ -171,7 +195,7 @@ impl<K: BodyKeeper> RelayService<K> {
         ensures answers { OnOk result (Answers K.keeps K.lacks_room K.fails K.reports K.names
             self.old request.now room response.new self.new) }
         ensures hosts { hosts_of self.new ≡ hosts_of self.old }
-        ensures max_body { max_body_of self.new ≡ max_body_of self.old }
+        ensures bounds { bounds_of self.new ≡ bounds_of self.old }
         ensures tallies { tally_of self.new ≡ tally_of self.old }
         ensures refused { OnErr result (self.new ≡ self.old) }
     {
@@ -182,12 +206,13 @@ impl<K: BodyKeeper> RelayService<K> {
                 return Ok(());
             }
             let keeper = &mut self.keeper;
-            let outcome = receive(self.alloc, keeper, request, self.max_body, room, response)?;
+            let outcome = receive(self.alloc, keeper, request, self.bounds, room, response)?;
             self.has_failed = either(self.has_failed, is_failure(outcome));
             return Ok(());
         }
-        if is_export_path(path) {
-            fill_denial(response, Denial::TracesOnly, denial_format(Some(request)))?;
+        if let Some(denial) = other_signal(path) {
+            fill_denial(response, denial, denial_format(Some(request)))?;
+            self.strays.note(denial);
             return Ok(());
         }
         let viewer = Viewer {
@@ -251,7 +276,13 @@ impl<K: BodyKeeper> Gathers for RelayService<K> {
 
     fn gather(&mut self, request: &Request<Bytes>, room: usize) {
         if self.keeper.collects() {
-            collect(self.alloc, &mut self.keeper, request, self.max_body, room);
+            collect(
+                self.alloc,
+                &mut self.keeper,
+                request,
+                self.bounds.max_content,
+                room,
+            );
         }
     }
 

@@ -1,11 +1,11 @@
 //! The program `trace-view`, over a runtime and writers.
 
-ghost use Rattle.std.specs.Prelude.{◌≡◌, ◌≤◌, ◌*◌};
+ghost use Rattle.std.specs.Prelude.{◌≡◌, ◌≤◌, ◌*◌, ◌/◌, min};
 ghost use Rattle.std.specs.Io.KnownBytes.{Keeps};
 
 use crate::args::ViewArgs;
 use crate::failure::{Failure, tell};
-use crate::report::report;
+use crate::report::{report, report_strays};
 use http_listener::{Complaints, Cors, Dated, End, Origins, Peers, Settings, listen};
 use std::alloc::Global;
 use std::hash::RandomState;
@@ -16,7 +16,7 @@ use std::random::RandomSource;
 use std::sync::{Arc, Wait};
 use std::time::Clock;
 use trace_store::{TraceDigest, TraceStore, ViewSpan};
-use view_service::{Hosts, Pages, TraceKeeper, ViewService};
+use view_service::{Hosts, Pages, Strays, TraceKeeper, ViewService};
 
 /// The bytes of a MiB.
 const MIB: u64 = 1_048_576;
@@ -102,6 +102,13 @@ fn max_body_of(args: &ViewArgs) -> usize
     usize::try_from(args.max_body).unwrap_or(usize::MAX)
 }
 
+/// How many bytes of requests and answers may be pending.
+fn pending_of(args: &ViewArgs) -> u64
+    ensures { args.now.pending_mb ≤ 1_048_576 → result ≡ args.now.pending_mb * 1_048_576 }
+{
+    args.pending_mb.saturating_mul(MIB)
+}
+
 /// The service, which listens at this address, and has kept nothing.
 fn service_of<R, P>(
     rt: &R,
@@ -121,7 +128,11 @@ where
         return Err(Failure::OutOfMemory);
     };
     match TraceStore::new(alloc, hasher, limits_of(args)) {
-        Ok(store) => Ok(ViewService::new(alloc, store, pages, hosts, max_body_of(args))),
+        Ok(store) => {
+            let service = ViewService::new(alloc, store, pages, hosts, max_body_of(args));
+            let pending = usize::try_from(pending_of(args)).unwrap_or(usize::MAX);
+            Ok(service.with_max_pending(pending))
+        }
         Err(_) => Err(Failure::OutOfMemory),
     }
 }
@@ -141,6 +152,7 @@ where
     F: Write,
 {
     let mut complaints = Complaints::new(alloc);
+    let mut told = Strays::new();
     for _ in rt.forever() {
         let round = match peers.round(service) {
             Ok(round) => round,
@@ -150,6 +162,7 @@ where
         for _ in 0..round.accepted {
             view.count_connection();
         }
+        report_strays(&mut told, view.strays(), faults);
         report(&mut complaints, view.tallies(), faults, round.at_ms);
     }
     unreachable!()
@@ -173,7 +186,7 @@ fn settings_of(args: &ViewArgs) -> Settings
     ensures discard { result.times.discard_ms ≡ 2_000 }
     ensures close { result.times.close_ms ≡ 1_000 }
     ensures most { result.most ≡ 8_192 }
-    ensures max_body { result.limits.max_body ≡ args.now.max_body }
+    ensures max_body { result.limits.max_body ≡ min args.now.max_body (result.pending / 2) }
     ensures pending { args.now.pending_mb ≤ 1_048_576
         → result.pending ≡ args.now.pending_mb * 1_048_576 }
 {
@@ -181,7 +194,7 @@ fn settings_of(args: &ViewArgs) -> Settings
         args.idle_seconds.saturating_mul(1_000),
         args.request_seconds.saturating_mul(1_000),
         max_body_of(args),
-        args.pending_mb.saturating_mul(MIB),
+        pending_of(args),
     )
 }
 

@@ -3,17 +3,19 @@
 use http::StatusCode;
 use http_listener::{Complaints, Line};
 use std::io::Write;
-use view_service::Tallies;
+use view_service::{Denial, Strays, Tallies};
 
 /// What a client or a user can do about a refusal. (profile)
 fn advice(status: u16) -> &'static str {
     match status {
         400 => "the request or its body can't be read: post OTLP over HTTP/1.1",
-        403 => "allow the name under which it was asked by --host NAME",
+        403 => "allow the name under which it was asked by --host NAME, or --host NAME:PORT",
         404 =>
             "post traces to /v1/traces; nothing is at the path, or its trace isn't kept any more",
         405 => "post to /v1/traces, and get the other paths",
-        413 => "let the exporter send smaller batches, or raise --max-body or what is kept",
+        413 => {
+            "let the exporter send smaller batches, or raise --max-body, --pending-mb or what is kept"
+        }
         414 => "ask for a shorter target",
         415 => {
             "set the exporter's protocol to http/protobuf or http/json, its compression to gzip \
@@ -22,7 +24,7 @@ fn advice(status: u16) -> &'static str {
         431 => "send fewer or shorter fields",
         501 => "send the body as it is, or in chunks",
         503 => "raise --pending-mb, or the memory that the process may take",
-        505 => "ask by HTTP/1.1",
+        505 => "gRPC isn't taken: set OTEL_EXPORTER_OTLP_PROTOCOL=http/protobuf",
         _ => "the answer says why",
     }
 }
@@ -62,4 +64,21 @@ pub(crate) fn report<F: Write>(
             write_line(faults, code, line);
         }
     }
+}
+
+/// Writes a line on another signal that was posted to this path.
+fn write_stray<F: Write>(faults: &mut F, path: &str, denial: Denial) {
+    let why = denial.message();
+    let _ = writeln!(faults, "trace-view: refused a post to {path} ({why})");
+}
+
+/// Writes the lines on signals beside traces that were posted: one on each, once.
+pub(crate) fn report_strays<F: Write>(told: &mut Strays, strays: Strays, faults: &mut F) {
+    if strays.metrics && !told.metrics {
+        write_stray(faults, "/v1/metrics", Denial::NoMetrics);
+    }
+    if strays.logs && !told.logs {
+        write_stray(faults, "/v1/logs", Denial::NoLogs);
+    }
+    *told = strays;
 }

@@ -18,7 +18,9 @@ use Rattle.otlp_receiver.specs.declared.reply.denial.Denial.TheVariants as denia
 use Rattle.otlp_receiver.specs.declared.reply.format.Format.{Format}
 use Rattle.otlp_receiver.specs.Contents.{TakesMemory}
 use Rattle.otlp_receiver.specs.Posts.{HasContent, IsAnswer, IsDenied, post_of, refusal_of_post}
-use Rattle.otlp_receiver.specs.Reads.{IsUnread, is_above, size_of_content}
+use Rattle.otlp_receiver.specs.Reads.{IsUnread, is_above, room_alone, size_denial}
+use Rattle.otlp_receiver.specs.Reads.{size_of_content}
+use Rattle.otlp_receiver.specs.declared.reading.Bounds.{Bounds}
 use Rattle.otlp_receiver.specs.declared.reading.Unread.TheVariants as reasons
 use Rattle.trace_store.specs.SpanParts.{keys_of}
 use Rattle.trace_store.specs.Requests.{IsOfOneTrace, spans_of_parts, spans_of_request}
@@ -53,57 +55,60 @@ Lacking A K = K → Parts A → Type 0
 abbrev pub Giving : Type 0 → Type 1
 Giving K = K → ℕ → K → Type 0
 
--- What becomes of a content, where this many bytes may still be pending: why it is refused, or
--- nothing where it is taken. It is taken only where it was read, and its parts were kept before.
+-- What becomes of a content, where this many bytes may still be pending, and reading it may take
+-- `alone` bytes when nothing else is: why it is refused, or nothing where it is taken. It is taken
+-- only where it was read, and its parts were kept before.
 -- Where it is refused, also for lack of room for its traces, what keeps the spans is as it was; but
 -- where memory was lacking, it has given up the oldest traces for as many bytes as the reading
 -- takes.
 pub data ReceivesContent {A K : Type 0} (keeps : Keeping A K) (lacks_room : Lacking A K)
-    (gives_up : Giving K) (old : K) (content : List ℕ) (room : ℕ) (denial : Option Denial) (new : K)
-    : Type 0 where
-  no_room : is_above content room ≡ true → denial ≡ Some denials.NoRoom → new ≡ old
-      → ReceivesContent keeps lacks_room gives_up old content room denial new
+    (gives_up : Giving K) (old : K) (content : List ℕ) (room alone : ℕ) (denial : Option Denial)
+    (new : K) : Type 0 where
+  no_room : is_above content room ≡ true → denial ≡ Some (size_denial content alone) → new ≡ old
+      → ReceivesContent keeps lacks_room gives_up old content room alone denial new
   unread : is_above content room ≡ false → IsUnread content reasons.Fault
       → denial ≡ Some denials.BadBody → new ≡ old
-      → ReceivesContent keeps lacks_room gives_up old content room denial new
+      → ReceivesContent keeps lacks_room gives_up old content room alone denial new
   too_large : (parts : Parts A) → is_above content room ≡ false → HasParts content parts
       → lacks_room old parts → denial ≡ Some denials.TracesTooLarge → new ≡ old
-      → ReceivesContent keeps lacks_room gives_up old content room denial new
+      → ReceivesContent keeps lacks_room gives_up old content room alone denial new
   no_memory : is_above content room ≡ false → denial ≡ Some denials.OutOfMemory
       → gives_up old (size_of_content content) new
-      → ReceivesContent keeps lacks_room gives_up old content room denial new
+      → ReceivesContent keeps lacks_room gives_up old content room alone denial new
   kept : (parts : Parts A) → is_above content room ≡ false → HasParts content parts
       → denial ≡ None → keeps old parts new
-      → ReceivesContent keeps lacks_room gives_up old content room denial new
+      → ReceivesContent keeps lacks_room gives_up old content room alone denial new
 
--- What becomes of a request whose content has at most so many bytes: it isn't for a collector, its
+-- What becomes of a request whose content is within these bounds: it isn't for a collector, its
 -- body means nothing, memory to read that was lacking, or its content is received.
 -- Where memory was lacking, the oldest traces were given up for as many bytes as a content may
 -- have.
 pub data Receives {A K : Type 0} (keeps : Keeping A K) (lacks_room : Lacking A K)
-    (gives_up : Giving K) (old : K) (most : ℕ) (post : HttpPost) (room : ℕ)
+    (gives_up : Giving K) (old : K) (bounds : Bounds) (post : HttpPost) (room : ℕ)
     (denial : Option Denial) (new : K) : Type 0 where
-  denied : (reason : Denial) → IsDenied most post reason → denial ≡ Some reason → new ≡ old
-      → Receives keeps lacks_room gives_up old most post room denial new
+  denied : (reason : Denial) → IsDenied bounds.max_content post reason → denial ≡ Some reason
+      → new ≡ old
+      → Receives keeps lacks_room gives_up old bounds post room denial new
   undecoded : refusal_of_post post ≡ None → TakesMemory post
-      → denial ≡ Some denials.OutOfMemory → gives_up old most new
-      → Receives keeps lacks_room gives_up old most post room denial new
-  read : (content : List ℕ) → HasContent most post content
-      → ReceivesContent keeps lacks_room gives_up old content room denial new
-      → Receives keeps lacks_room gives_up old most post room denial new
+      → denial ≡ Some denials.OutOfMemory → gives_up old bounds.max_content new
+      → Receives keeps lacks_room gives_up old bounds post room denial new
+  read : (content : List ℕ) → HasContent bounds.max_content post content
+      → ReceivesContent keeps lacks_room gives_up old content room
+      (room_alone bounds.max_pending post.body) denial new
+      → Receives keeps lacks_room gives_up old bounds post room denial new
 
 -- a content that was sent for its spans to be received is answered so, in this format
 abbrev pub AnswersContent : {A K : Type 0} → Keeping A K → Lacking A K → Giving K → K → List ℕ → ℕ
-    → Format → Response → K → Type 0
-AnswersContent keeps lacks_room gives_up old content room format response new =
+    → ℕ → Format → Response → K → Type 0
+AnswersContent keeps lacks_room gives_up old content room alone format response new =
     (denial : Option Denial)
-    × ReceivesContent keeps lacks_room gives_up old content room denial new
+    × ReceivesContent keeps lacks_room gives_up old content room alone denial new
     × IsAnswer denial format response
 
--- a request to receive spans, whose content has at most so many bytes, is answered so
+-- a request to receive spans, whose content is within these bounds, is answered so
 abbrev pub AnswersExport : {A K : Type 0} → Keeping A K → Lacking A K → Giving K → K
-    → HttpRequest (List ℕ) → ℕ → ℕ → Response → K → Type 0
-AnswersExport keeps lacks_room gives_up old request most room response new =
+    → HttpRequest (List ℕ) → Bounds → ℕ → Response → K → Type 0
+AnswersExport keeps lacks_room gives_up old request bounds room response new =
     (denial : Option Denial)
-    × Receives keeps lacks_room gives_up old most (post_of request) room denial new
+    × Receives keeps lacks_room gives_up old bounds (post_of request) room denial new
     × IsAnswer denial (denial_format (Some (head_of request))) response

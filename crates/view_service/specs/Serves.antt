@@ -7,13 +7,12 @@ use Rattle.http_connection.specs.Turns.{Turn, Admitted, Rejected, Answered, Refu
 use Rattle.http_server.specs.declared.response.Response.{Response}
 use Rattle.http_uri.specs.Uri.{uri_path}
 use Rattle.otlp_receiver.specs.Denials.{IsDenial, IsOptions}
-use Rattle.otlp_receiver.specs.Hosts.{allows_head}
-use Rattle.otlp_receiver.specs.Judged.{denial_by, head_denial}
+use Rattle.otlp_receiver.specs.Judged.{denial_by, head_denial, may_ask}
 use Rattle.otlp_receiver.specs.Requests.{asks_for_methods, denial_format, is_export_of_traces}
-use Rattle.otlp_receiver.specs.Requests.{is_export_path}
+use Rattle.otlp_receiver.specs.Requests.{other_signal}
 use Rattle.otlp_receiver.specs.Tallies.{CountsAnswer, Tally}
 use Rattle.otlp_receiver.specs.declared.reply.denial.Denial.{Denial}
-use Rattle.otlp_receiver.specs.declared.reply.denial.Denial.TheVariants as denials
+use Rattle.otlp_receiver.specs.declared.reading.Bounds.{Bounds}
 use Rattle.view_service.specs.Receives.{AnswersExport, Giving, Keeping, Lacking}
 use Rattle.view_service.specs.Shows.{AnswersPage, Drawing, Lending, Writing}
 use Rattle.view_service.specs.declared.service.ViewService.{ViewService}
@@ -31,21 +30,21 @@ module _ {K P : Type 0} where
   abbrev pub hosts_of : ViewService K P → List (List ℕ)
   hosts_of service = service.hosts
 
-  -- how many bytes the content of a request may have
-  abbrev pub max_body_of : ViewService K P → ℕ
-  max_body_of service = service.max_body
+  -- what bounds the content of a request
+  abbrev pub bounds_of : ViewService K P → Bounds
+  bounds_of service = service.bounds
 
   -- what it has counted
   abbrev pub tally_of : ViewService K P → Tally
   tally_of service = service.tallies
 
 -- A service has given one more answer, with this status, which it counted. Under the same hosts it
--- shows the same pages, and takes contents of the same size.
+-- shows the same pages, and takes contents within the same bounds.
 pub record HasAnswered {K P : Type 0} (old new : ViewService K P) (status : ℕ) : Type 0 where
   pub counted : CountsAnswer (tally_of old) (tally_of new) status
   pub hosts : hosts_of new ≡ hosts_of old
   pub pages : pages_of new ≡ pages_of old
-  pub max_body : max_body_of new ≡ max_body_of old
+  pub bounds : bounds_of new ≡ bounds_of old
 
 module _ {A K P R S : Type 0} (keeps : Keeping A K) (lacks_room : Lacking A K)
     (gives_up : Giving K) (lends : Lending K S) (draws : Drawing P S) (writes : Writing R) where
@@ -58,14 +57,15 @@ module _ {A K P R S : Type 0} (keeps : Keeping A K) (lacks_room : Lacking A K)
         → IsOptions response → rest ≡ None → new ≡ keeper_of old
         → Answers old request room response rest new
     received : is_export_of_traces request ≡ true → asks_for_methods request ≡ false
-        → AnswersExport keeps lacks_room gives_up (keeper_of old) request (max_body_of old) room
+        → AnswersExport keeps lacks_room gives_up (keeper_of old) request (bounds_of old) room
         response new
         → rest ≡ None → Answers old request room response rest new
-    traces_only : is_export_of_traces request ≡ false
-        → is_export_path (uri_path (head_of request).uri) ≡ true
-        → IsDenial denials.TracesOnly (denial_format (Some (head_of request))) response
+    not_taken : is_export_of_traces request ≡ false → (denial : Denial)
+        → other_signal (uri_path (head_of request).uri) ≡ Some denial
+        → IsDenial denial (denial_format (Some (head_of request))) response
         → rest ≡ None → new ≡ keeper_of old → Answers old request room response rest new
-    shown : is_export_path (uri_path (head_of request).uri) ≡ false
+    shown : is_export_of_traces request ≡ false
+        → other_signal (uri_path (head_of request).uri) ≡ None
         → AnswersPage lends draws writes (keeper_of old) (pages_of old) (head_of request) response
         rest → new ≡ keeper_of old → Answers old request room response rest new
 
@@ -73,7 +73,7 @@ module _ {A K P R S : Type 0} (keeps : Keeping A K) (lacks_room : Lacking A K)
   -- is counted.
   abbrev pub Serves : ViewService K P → Turn R → ViewService K P → Type 0
   Serves old (Admitted head) new =
-      (allows_head (hosts_of old) (head_of head) ≡ true) × (new ≡ old)
+      (may_ask (hosts_of old) (head_of head) ≡ true) × (new ≡ old)
   Serves old (Rejected head response) new = (body : Option ℕ) × (room : ℕ) × (denial : Denial)
       × (head_denial (hosts_of old) (head_of head) body room ≡ Some denial)
       × IsDenial denial (denial_format (Some (head_of head))) response

@@ -25,7 +25,7 @@ mod site_filter;
 pub use filter::TraceFilter;
 pub use keeper::{Counts, Listed, TraceKeeper};
 pub use metrics::{Answered, write_metrics};
-pub use otlp_receiver::reply::{Denial, Format, Hosts, Tallies};
+pub use otlp_receiver::reply::{Denial, Format, Hosts, Strays, Tallies};
 pub use page::SitePage;
 pub use pages::{Asked, ListForm, Pages, TraceForm};
 pub use route::{Route, route_of};

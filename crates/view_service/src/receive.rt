@@ -13,7 +13,10 @@ use http_server::Response;
 use otlp_receiver::reply::{
     Denial, Format, denial_format, denial_response, fill_denial, fill_taken,
 };
-use otlp_receiver::{Undecoded, Unread, content_in, is_above, read_content, size_of_content};
+use otlp_receiver::{
+    Bounds, Undecoded, Unread, content_in, is_above, read_content, room_alone, size_denial,
+    size_of_content,
+};
 use std::alloc::{AllocError, Global};
 use std::sync::Arc;
 use trace_store::{InsertFault, Part, TraceDigest, ViewSpan, take_apart};
@@ -68,13 +71,15 @@ fn keep_parts<K: TraceKeeper<Arc<ViewSpan>, TraceDigest>>(
     }
 }
 
-/// Makes a blank response the answer to a request that is for a collector and has this content, of
-/// whose size so many bytes may be pending. `busy` is the answer where memory is refused.
+/// Makes a blank response the answer to a request that is for a collector and has this content,
+/// where so many bytes may still be pending, and reading it may take `alone` bytes when nothing else
+/// is. `busy` is the answer where memory is refused.
 fn receive_content<K: TraceKeeper<Arc<ViewSpan>, TraceDigest>>(
     alloc: Global,
     keeper: &mut K,
     content: &[u8],
     room: usize,
+    alone: usize,
     format: Format,
     busy: Response,
     response: &mut Response,
@@ -82,11 +87,11 @@ fn receive_content<K: TraceKeeper<Arc<ViewSpan>, TraceDigest>>(
     requires blank { IsBlank response.old }
     requires busy { IsDenial Denial.OutOfMemory format busy }
     ensures received { OnOk result (AnswersContent K.keeps K.lacks_room K.gives_up keeper.old
-        content.now room format response.new keeper.new) }
+        content.now room alone format response.new keeper.new) }
     ensures refused { OnErr result (keeper.new ≡ keeper.old) }
 {
     if is_above(content, room) {
-        fill_denial(response, Denial::NoRoom, format)?;
+        fill_denial(response, size_denial(content, alone), format)?;
         return Ok(());
     }
     let parts = match read_parts(alloc, content) {
@@ -114,10 +119,10 @@ fn receive_content<K: TraceKeeper<Arc<ViewSpan>, TraceDigest>>(
 }
 
 /// Makes a blank response the answer to a request to receive spans (OTLP Specification, "OTLP/HTTP
-/// Request"), whose content may have at most `most` bytes. Only where its content was read, and its
-/// spans were kept, it is 200. Where their traces would be larger than all that is kept, it is 413,
-/// and nothing is kept or given up. Where memory was refused, the oldest traces make room for the
-/// next request.
+/// Request"), whose content is within these bounds. Only where its content was read, and its spans
+/// were kept, it is 200. Where their traces would be larger than all that is kept, it is 413, and
+/// nothing is kept or given up. Where memory was refused, the oldest traces make room for the next
+/// request.
 ///
 /// # Errors
 ///
@@ -127,29 +132,30 @@ pub(crate) fn receive<K: TraceKeeper<Arc<ViewSpan>, TraceDigest>>(
     alloc: Global,
     keeper: &mut K,
     request: &Request<Bytes>,
-    most: usize,
+    bounds: Bounds,
     room: usize,
     response: &mut Response,
 ) -> Result<(), AllocError>
     requires { IsBlank response.old }
     ensures received { OnOk result (AnswersExport K.keeps K.lacks_room K.gives_up keeper.old
-        request.now most room response.new keeper.new) }
+        request.now bounds room response.new keeper.new) }
     ensures refused { OnErr result (keeper.new ≡ keeper.old) }
 {
     let format = denial_format(Some(request));
     let busy = denial_response(alloc, Denial::OutOfMemory, format)?;
-    match content_in(alloc, request, most) {
+    let body = request.body().as_slice();
+    let alone = room_alone(bounds.max_pending, body);
+    match content_in(alloc, request, bounds.max_content) {
         Ok(None) => {
-            let content = request.body().as_slice();
-            receive_content(alloc, keeper, content, room, format, busy, response)?;
+            receive_content(alloc, keeper, body, room, alone, format, busy, response)?;
         }
         Ok(Some(content)) => {
             let content = content.as_slice();
-            receive_content(alloc, keeper, content, room, format, busy, response)?;
+            receive_content(alloc, keeper, content, room, alone, format, busy, response)?;
         }
         Err(Undecoded::Denied(denial)) => fill_denial(response, denial, format)?,
         Err(Undecoded::OutOfMemory) => {
-            keeper.make_room(most as u64);
+            keeper.make_room(bounds.max_content as u64);
             *response = busy;
         }
     }

@@ -9,7 +9,7 @@ ghost use Rattle.otlp_receiver.specs.Denials.{IsDenial};
 ghost use Rattle.http_connection.specs.Heads.{head_in};
 ghost use Rattle.otlp_receiver.specs.Requests.{denial_format};
 ghost use Rattle.view_service.specs.Serves.{Answers, HasAnswered, hosts_of, keeper_of, pages_of};
-ghost use Rattle.view_service.specs.Serves.{max_body_of, tally_of};
+ghost use Rattle.view_service.specs.Serves.{bounds_of, tally_of};
 
 use crate::keeper::TraceKeeper;
 use crate::pages::Pages;
@@ -19,9 +19,10 @@ use bytes::Bytes;
 use http::Request;
 use http_connection::{Refusal, Service};
 use http_server::Response;
+use otlp_receiver::Bounds;
 use otlp_receiver::reply::{
-    Denial, Hosts, Tallies, denial_by, denial_format, fill_denial, fill_options, head_denial,
-    is_export_path, path_of,
+    Denial, Hosts, Strays, Tallies, denial_by, denial_format, fill_denial, fill_options,
+    head_denial, other_signal, path_of,
 };
 use std::alloc::{AllocError, Global};
 use std::sync::Arc;
@@ -40,9 +41,9 @@ pub struct ViewService<K, P> {
     keeper: K,
     pages: P,
     hosts: Hosts,
-    // How many bytes the content of a request may have.
-    max_body: usize,
+    bounds: Bounds,
     tallies: Tallies,
+    strays: Strays,
 }
 
 impl<K, P> ViewService<K, P> {
@@ -58,7 +59,8 @@ impl<K, P> ViewService<K, P> {
         ensures keeper { keeper_of result ≡ keeper }
         ensures pages { pages_of result ≡ pages }
         ensures hosts { hosts_of result ≡ hosts }
-        ensures max_body { max_body_of result ≡ max_body }
+        ensures bounds { bounds_of result
+            ≡ record { max_content = max_body; max_pending = usize.MAX } }
         ensures tallies { tally_of result
             ≡ record { connections = 0; answers = replicate 900 0 } }
     {
@@ -67,9 +69,26 @@ impl<K, P> ViewService<K, P> {
             keeper,
             pages,
             hosts,
-            max_body,
+            bounds: Bounds {
+                max_content: max_body,
+                max_pending: usize::MAX,
+            },
             tallies: Tallies::new(),
+            strays: Strays::new(),
         }
+    }
+
+    /// The same, where so many bytes may be pending in all: a post that could not be read even alone
+    /// is then refused as one that never fits. Without this it is refused as one that fits later.
+    pub fn with_max_pending(mut self, max_pending: usize) -> ViewService<K, P>
+        ensures bounds { bounds_of result ≡ record (bounds_of self) { max_pending = max_pending } }
+        ensures keeper { keeper_of result ≡ keeper_of self }
+        ensures pages { pages_of result ≡ pages_of self }
+        ensures hosts { hosts_of result ≡ hosts_of self }
+        ensures tallies { tally_of result ≡ tally_of self }
+    {
+        self.bounds.max_pending = max_pending;
+        self
     }
 
     /// What keeps its spans.
@@ -84,6 +103,11 @@ impl<K, P> ViewService<K, P> {
         ensures { result.now ≡ tally_of self.now }
     {
         &self.tallies
+    }
+
+    /// Which signals beside traces it was asked to receive.
+    pub fn strays(&self) -> Strays {
+        self.strays
     }
 
     /// Counts a connection.
@@ -153,7 +177,7 @@ where
             P.draws P.Page.writes self.old request.now room response.new rest (keeper_of self.new)) }
         ensures hosts { hosts_of self.new ≡ hosts_of self.old }
         ensures pages { pages_of self.new ≡ pages_of self.old }
-        ensures max_body { max_body_of self.new ≡ max_body_of self.old }
+        ensures bounds { bounds_of self.new ≡ bounds_of self.old }
         ensures tallies { tally_of self.new ≡ tally_of self.old }
         ensures refused { OnErr result (self.new ≡ self.old) }
     {
@@ -164,11 +188,12 @@ where
                 return Ok(None);
             }
             let keeper = &mut self.keeper;
-            receive(self.alloc, keeper, request, self.max_body, room, response)?;
+            receive(self.alloc, keeper, request, self.bounds, room, response)?;
             return Ok(None);
         }
-        if is_export_path(path) {
-            fill_denial(response, Denial::TracesOnly, denial_format(Some(request)))?;
+        if let Some(denial) = other_signal(path) {
+            fill_denial(response, denial, denial_format(Some(request)))?;
+            self.strays.note(denial);
             return Ok(None);
         }
         let viewer = Viewer {

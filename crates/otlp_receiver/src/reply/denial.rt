@@ -21,12 +21,16 @@ pub enum Denial {
     BadBody,
     /// 400: its body isn't the gzip file that it is said to be.
     BadCoding,
+    /// 400: a trace id in its body hasn't 16 bytes, or a span id hasn't 8.
+    BadIds,
     /// 403: it is for a host that isn't one of the service's.
     Host,
     /// 404: nothing is at its path.
     NoPath,
-    /// 404: its path is that of metrics or logs.
-    TracesOnly,
+    /// 404: its path is that of metrics.
+    NoMetrics,
+    /// 404: its path is that of logs.
+    NoLogs,
     /// 405: its path is that of exports, and it isn't posted.
     ExportMethod,
     /// 405: its path is that of a page, and it has a method that pages don't have.
@@ -35,6 +39,8 @@ pub enum Denial {
     BodyTooLarge,
     /// 413: with its spans, their traces would be larger than all that is kept.
     TracesTooLarge,
+    /// 413: reading its body takes more memory than may ever be pending.
+    ReadTooLarge,
     /// 414: its target is too long.
     UriTooLong,
     /// 415: its body is of another type, or is encoded otherwise than by gzip.
@@ -59,11 +65,15 @@ impl Denial {
         ensures { result ≡ spec.code_of self }
     {
         match self {
-            Denial::BadRequest | Denial::BadBody | Denial::BadCoding => StatusCode::BAD_REQUEST,
+            Denial::BadRequest | Denial::BadBody | Denial::BadCoding | Denial::BadIds => {
+                StatusCode::BAD_REQUEST
+            }
             Denial::Host => StatusCode::FORBIDDEN,
-            Denial::NoPath | Denial::TracesOnly => StatusCode::NOT_FOUND,
+            Denial::NoPath | Denial::NoMetrics | Denial::NoLogs => StatusCode::NOT_FOUND,
             Denial::ExportMethod | Denial::PageMethod => StatusCode::METHOD_NOT_ALLOWED,
-            Denial::BodyTooLarge | Denial::TracesTooLarge => StatusCode::PAYLOAD_TOO_LARGE,
+            Denial::BodyTooLarge | Denial::TracesTooLarge | Denial::ReadTooLarge => {
+                StatusCode::PAYLOAD_TOO_LARGE
+            }
             Denial::UriTooLong => StatusCode::URI_TOO_LONG,
             Denial::MediaType => StatusCode::UNSUPPORTED_MEDIA_TYPE,
             Denial::FieldsTooLarge => StatusCode::REQUEST_HEADER_FIELDS_TOO_LARGE,
@@ -84,18 +94,26 @@ impl Denial {
             Denial::BadRequest => "the request can't be read as HTTP/1.1",
             Denial::BadBody => "the body can't be read as an ExportTraceServiceRequest of its type",
             Denial::BadCoding => "the body can't be read as a gzip file, as Content-Encoding says",
+            Denial::BadIds => {
+                "a span's trace id hasn't 16 bytes, or its span id hasn't 8: collectors refuse it"
+            }
             Denial::Host => "this host isn't one of the service's: start it with --host NAME",
             Denial::NoPath => "no such path: post traces to /v1/traces",
-            Denial::TracesOnly => "traces only: metrics and logs are not taken",
+            Denial::NoMetrics => "only traces are taken here: set OTEL_METRICS_EXPORTER=none",
+            Denial::NoLogs => "only traces are taken here: set OTEL_LOGS_EXPORTER=none",
             Denial::ExportMethod => "post traces with the method POST",
             Denial::PageMethod => {
                 "post traces to /v1/traces: this path is read with the method GET"
             }
             Denial::BodyTooLarge => {
-                "the body is too large: export smaller batches, or raise --max-body"
+                "the body is too large: export smaller batches, or raise --max-body or --pending-mb"
             }
             Denial::TracesTooLarge => {
                 "more than is kept: export smaller batches, or raise --keep-spans or --keep-mb"
+            }
+            Denial::ReadTooLarge => {
+                "reading it takes more than may be pending: export smaller batches, or raise \
+                --pending-mb"
             }
             Denial::UriTooLong => "the target of the request is too long",
             Denial::MediaType => {
@@ -107,7 +125,10 @@ impl Denial {
             Denial::KeepFailed => "traces can't be kept: the service's disk has failed",
             Denial::OutOfMemory => "out of memory: try again in a second",
             Denial::NoRoom => "too much is pending: try again in a second",
-            Denial::UnknownVersion => "send the request by HTTP/1.1",
+            Denial::UnknownVersion => {
+                "gRPC isn't taken: set OTEL_EXPORTER_OTLP_PROTOCOL=http/protobuf; requests come \
+                by HTTP/1.1"
+            }
         }
     }
 }

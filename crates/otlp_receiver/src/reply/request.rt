@@ -7,6 +7,7 @@ ghost use Rattle.http_uri.specs.Uri.{uri_path};
 ghost use Rattle.http_connection.specs.Heads.{head_in};
 ghost use Rattle.otlp_receiver.specs.Requests as spec;
 
+use crate::reply::denial::Denial;
 use crate::reply::format::Format;
 use crate::reply::hosts::is_same_word;
 use bytes::Bytes;
@@ -24,6 +25,19 @@ pub fn is_export_path(path: &str) -> bool
     ensures { result ≡ spec.is_export_path path.now }
 {
     path == "/v1/traces" || path == "/v1/metrics" || path == "/v1/logs"
+}
+
+/// Why a request for this path is refused, where exporters of OTLP post another signal than traces
+/// there (OTLP Specification, "OTLP/HTTP Request").
+#[tactic(auto, unfolding(crate::specs::Requests::other_signal))]
+pub fn other_signal(path: &str) -> Option<Denial>
+    ensures { result ≡ spec.other_signal path.now }
+{
+    match path {
+        "/v1/metrics" => Some(Denial::NoMetrics),
+        "/v1/logs" => Some(Denial::NoLogs),
+        _ => None,
+    }
 }
 
 /// Whether a request is an export, or is answered as one: a post, or a request for a path of

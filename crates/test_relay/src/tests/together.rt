@@ -3,7 +3,7 @@ ghost use Rattle.std.specs.Prelude.{◌≡◌};
 
 use crate::tests::device::TestDevice;
 use crate::tests::equal::assert_equal;
-use crate::tests::relay::{FIRST, Relay, SECOND, opened};
+use crate::tests::relay::{Relay, opened};
 use http_connection::{Connection, Gathers, Limits};
 use relay_service::{Hosts, NoPieces, RelayService};
 use relay_store::{Naming, RelayBlank, SharedKeeper};
@@ -21,7 +21,13 @@ const ROOM: usize = 1 << 24;
 
 /// What comes before the body of a post.
 const HEAD: &[u8] = b"POST /v1/traces HTTP/1.1\r\nhost: localhost:4318\r\n\
-content-type: application/x-protobuf\r\ncontent-length: 12\r\n\r\n";
+content-type: application/x-protobuf\r\ncontent-length: 34\r\n\r\n";
+
+/// A body of one span, whose identifiers are as long as the standard has them.
+const FIRST: &[u8] = b"\x0a\x20\x12\x1e\x12\x1c\x0a\x10aaaaaaaaaaaaaaaa\x12\x08aaaaaaaa";
+
+/// Another one.
+const SECOND: &[u8] = b"\x0a\x20\x12\x1e\x12\x1c\x0a\x10bbbbbbbbbbbbbbbb\x12\x08bbbbbbbb";
 
 /// What is answered to a post that is taken, 76 bytes.
 const TAKEN: &[u8] = b"HTTP/1.1 200 OK\r\ncontent-type: application/x-protobuf\r\n\
@@ -30,7 +36,7 @@ content-length: 0\r\n\r\n";
 /// A service that keeps bodies together.
 type Service<J, R> = RelayService<SharedKeeper<J, R, TestDevice>>;
 
-/// Posts of these bodies, of twelve bytes each.
+/// Posts of these bodies, of 34 bytes each.
 fn posts(alloc: Global, bodies: &[&[u8]]) -> Result<Vec<u8>, AllocError> {
     let mut bytes = Vec::new(alloc);
     for body in bodies {

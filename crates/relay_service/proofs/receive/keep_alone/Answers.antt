@@ -1,15 +1,12 @@
-use Rattle.std.proofs.Common.{◌∙◌, refl, sym}
+use Rattle.std.proofs.Common.{◌∙◌, ap, refl, sym}
 use Rattle.relay_service.specs.Receives.{ReceivesContent}
+use Rattle.relay_service.specs.declared.receive.Outcome.TheVariants as outcomes
 use Rattle.relay_service.proofs.receive.keep_alone.Goals as goal
 
 pub returns-then-is_above : goal.returns-then-is_above
 returns-then-is_above g c =
-    ReceivesContent.no_room (sym c.is_above.ensures ∙ c.if-is_above.true) refl refl
-
-pub returns-in-Ok : goal.returns-in-Ok
-returns-in-Ok g c =
-    ReceivesContent.read (sym c.is_above.ensures ∙ c.if-is_above.false) c.in-Ok.ensures.readable
-    c.keep_copy.ensures
+    ReceivesContent.no_room (sym c.is_above.ensures ∙ c.if-is_above.true)
+    (ap outcomes.Denied c.size_denial.ensures) refl
 
 pub returns-in-Err-Fault : goal.returns-in-Err-Fault
 returns-in-Err-Fault g c =

@@ -10,6 +10,6 @@ returns-then-recall g c =
 pub returns : goal.returns
 returns g c =
     subst (λ keeper. ReceivesContent g.K.BodyKeeper.keeps g.K.BodyKeeper.lacks_room
-    g.K.BodyKeeper.fails keeper c.args.content.now c.args.room c.keep_alone.result
+    g.K.BodyKeeper.fails keeper c.args.content.now c.args.room c.args.alone c.keep_alone.result
     c.keep_alone.new.keeper)
     (c.recall.ensures.same c.if-recall.false) c.keep_alone.ensures

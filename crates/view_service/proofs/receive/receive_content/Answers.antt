@@ -1,12 +1,13 @@
-use Rattle.std.proofs.Common.{◌∙◌, refl, sym, Some, None}
+use Rattle.std.proofs.Common.{◌∙◌, ap, refl, sym, Some, None}
 use Rattle.otlp_receiver.specs.declared.reply.denial.Denial.TheVariants as denials
 use Rattle.view_service.specs.Receives.{ReceivesContent}
 use Rattle.view_service.proofs.receive.receive_content.Goals as goal
 
 pub returns-then-is_above-clause-received : goal.returns-then-is_above-clause-received
 returns-then-is_above-clause-received g c = (
-  Some denials.NoRoom,
-  ReceivesContent.no_room (sym c.is_above.ensures ∙ c.if-is_above.true) refl refl,
+  Some c.size_denial.result,
+  ReceivesContent.no_room (sym c.is_above.ensures ∙ c.if-is_above.true)
+      (ap Some c.size_denial.ensures) refl,
   c.in_ok-fill_denial.ensures,
 )
 
