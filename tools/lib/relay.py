@@ -21,7 +21,7 @@ LOOK = 0.01  # seconds between two looks
 CLIENTS = 8  # clients that post at once
 BALANCE = re.compile(
     r"bodies received (\d+), delivered (\d+), lost (\d+), left (\d+); "
-    r"spans received (\d+), delivered (\d+), (?:rejected \d+, )?lost (\d+), left (\d+)\n"
+    r"spans received (\d+), delivered (\d+), rejected \d+, lost (\d+), left (\d+)\n"
 )
 OTLP = "Content-Type: application/x-protobuf\r\n"
 

@@ -18,6 +18,8 @@ command = app_with (codes "otlp-relay") (number_rule (codes "port") 0 65_535
     ∷ number_rule (codes "attempts") 0 1_000_000
     ∷ number_rule (codes "max-body") 0 1_073_741_824
     ∷ number_rule (codes "pending-mb") 1 1_048_576
+    ∷ number_rule (codes "timeout") 1 600_000
+    ∷ number_rule (codes "refused-after") 0 1_000_000
     ∷ text_rule (codes "to") false ∷ text_rule (codes "address") false
     ∷ text_rule (codes "spool") false ∷ text_rule (codes "header") true
     ∷ text_rule (codes "names") false ∷ text_rule (codes "host") true ∷ [])

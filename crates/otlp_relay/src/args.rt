@@ -48,12 +48,19 @@ pub struct RelayArgs {
     /// `--pending-mb`: how many MiB of requests that arrive and of answers that wait to go out are
     /// held at most, 1 to 1,048,576, 64 by default.
     pub pending_mb: u64,
+    /// `--timeout`: how long an attempt to send a batch may take, 1 to 600,000 ms, 10,000 by default
+    /// (OTLP Exporter Configuration, "Timeout").
+    pub timeout_ms: u64,
+    /// `--refused-after`: after how many requests in a row that the collector refuses whatever they
+    /// have what is refused is lost, up to 1,000,000. By default it is 0: it never is, and is sent
+    /// again.
+    pub refused_after: u64,
     /// `--host`: further names that a request's Host may have, in the order of the words.
     pub hosts: Vec<String>,
 }
 
 /// The options with a number, in the order of help.
-const NUMBERS: [NumberOption<'static>; 9] = [
+const NUMBERS: [NumberOption<'static>; 11] = [
     NumberOption {
         name: "port",
         value: "P",
@@ -125,6 +132,22 @@ const NUMBERS: [NumberOption<'static>; 9] = [
         most: 1_048_576,
         default: 64,
         help: "How many MiB of requests and answers may be on their way [default: 64]",
+    },
+    NumberOption {
+        name: "timeout",
+        value: "MS",
+        least: 1,
+        most: 600_000,
+        default: 10_000,
+        help: "How long an attempt to send a request may take [default: 10000]",
+    },
+    NumberOption {
+        name: "refused-after",
+        value: "N",
+        least: 0,
+        most: 1_000_000,
+        default: 0,
+        help: "Refusals in a row after which bodies are lost, 0 for never [default: 0]",
     },
 ];
 
@@ -328,6 +351,10 @@ impl RelayArgs {
             args.max_body ≡ number_in command (codes "max-body") 16_777_216 words.now) }
         ensures pending_mb { IfOk result (λ args.
             args.pending_mb ≡ number_in command (codes "pending-mb") 64 words.now) }
+        ensures timeout { IfOk result (λ args.
+            args.timeout_ms ≡ number_in command (codes "timeout") 10_000 words.now) }
+        ensures refused_after { IfOk result (λ args.
+            args.refused_after ≡ number_in command (codes "refused-after") 0 words.now) }
         ensures hosts { IfOk result (λ args.
             texts_of args.hosts.items ≡ texts_given command (codes "host") words.now) }
     {
@@ -364,6 +391,8 @@ impl RelayArgs {
             attempts: numbers[6],
             max_body: numbers[7],
             pending_mb: numbers[8],
+            timeout_ms: numbers[9],
+            refused_after: numbers[10],
             hosts,
         })
     }

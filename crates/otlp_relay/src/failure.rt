@@ -38,6 +38,10 @@ pub enum Failure {
     /// A line can't be written.
     #[error("cannot write to standard output; start with one that can be written to")]
     Write,
+    /// So many names of lost spans are not written, since that failed.
+    #[error("{0} names of lost spans could not be written; see that the disk of --names has room, and \
+        that standard error is read")]
+    Unwritten(u64),
     /// Memory was refused.
     #[error("out of memory; start with a smaller --memory-mb or --pending-mb, or with more memory")]
     OutOfMemory,
@@ -56,7 +60,8 @@ impl Failure {
             | Failure::Names
             | Failure::Thread
             | Failure::Wait
-            | Failure::Write => 1,
+            | Failure::Write
+            | Failure::Unwritten(_) => 1,
             Failure::OutOfMemory => 3,
         }
     }

@@ -1,18 +1,16 @@
 //! What is kept, and its spool: opening it, and opening it again after it failed.
+ghost use Rattle.std.specs.Prelude.{◌≡◌, ◌≤◌, ◌*◌, ◌-◌, ◌^◌, min, IfSome, IsNone};
+
 use crate::args::RelayArgs;
 use crate::failure::Failure;
 use crate::folder::Folders;
-use crate::settings::spool_limit_of;
+use crate::settings::{segment_bytes_of, spool_limit_of};
 use crate::told::Told;
 use relay_store::{Accounted, Naming, RelaySender};
-use spool::{DeviceError, Opened, Spool, SpoolError, SpoolFolder};
+use spool::{DeviceError, Opened, Spool, SpoolError, SpoolFolder, max_body};
 use std::alloc::Global;
 use std::io::Write;
 use std::sync::{Arc, Mutex, Wait};
-
-/// How many bytes a file of the spool has at most, unless it has a single body. One is read whole
-/// while posts wait for the lock. (profile)
-pub(crate) const SEGMENT_BYTES: u64 = 1_048_576;
 
 /// How long a spool that failed isn't opened again, in milliseconds. (profile)
 const BETWEEN_OPENS_MS: u64 = 1_000;
@@ -36,17 +34,25 @@ impl Place {
             Err(DeviceError::Memory) => return Err(SpoolError::Memory),
             Err(DeviceError::Failed) => return Err(SpoolError::Failed),
         };
-        match Spool::open(alloc, device, self.limit, SEGMENT_BYTES) {
+        match Spool::open(alloc, device, self.limit, segment_bytes_of(self.limit)) {
             Ok(opened) => Ok(opened),
             Err((error, _)) => Err(error),
         }
     }
 }
 
-/// Where the spool is that the arguments name, if they name one.
-pub(crate) fn place_of(folders: Folders, args: &mut RelayArgs) -> Option<Place> {
+/// Where the spool is that the arguments name, if they name one. Then no body may be larger than one
+/// that the spool takes whenever no other waits.
+pub(crate) fn place_of(folders: Folders, args: &mut RelayArgs) -> Option<Place>
+    ensures limit { IfSome result (λ place. args.old.spool_mb ≤ 1_048_576
+        → place.limit ≡ args.old.spool_mb * 1_048_576 - 65_536) }
+    ensures most { IfSome result (λ place.
+        args.new.max_body ≡ min args.old.max_body (min (place.limit - 43) (2 ^ 32 - 2))) }
+    ensures none { IsNone result → args.new.max_body ≡ args.old.max_body }
+{
     let limit = spool_limit_of(args);
     let name = args.spool.take()?;
+    args.max_body = args.max_body.min(max_body(limit));
     Some(Place {
         folders,
         name,
@@ -95,8 +101,10 @@ pub(crate) fn say_damaged<F: Write>(faults: &mut F, damaged_bytes: u64) {
 pub(crate) struct Mender {
     alloc: Global,
     place: Option<Place>,
-    // The moment from which it is opened again, in milliseconds, where it has failed.
-    next_ms: Option<u64>,
+    // Whether it is known to have failed, and was not opened again.
+    is_failed: bool,
+    // The moment from which it may be opened again, in milliseconds.
+    next_ms: u64,
 }
 
 impl Mender {
@@ -105,7 +113,8 @@ impl Mender {
         Mender {
             alloc,
             place,
-            next_ms: None,
+            is_failed: false,
+            next_ms: 0,
         }
     }
 }
@@ -132,26 +141,21 @@ impl Mender {
         if !sender.has_failed(rt, kept) {
             return;
         }
-        let next_ms = match self.next_ms {
-            Some(next_ms) => next_ms,
-            None => {
-                told.spool_failed(now_ms);
-                now_ms
-            }
-        };
-        if now_ms < next_ms {
+        if !self.is_failed {
+            self.is_failed = true;
+            told.spool_failed(now_ms);
+        }
+        if now_ms < self.next_ms {
             return;
         }
+        self.next_ms = now_ms.saturating_add(BETWEEN_OPENS_MS);
         // (the folder is let go before it is opened again: it is locked)
         let failed = sender.take_spool(rt, kept);
         drop(failed);
-        match place.open(self.alloc) {
-            Ok(opened) => {
-                sender.restore(rt, kept, opened.spool);
-                told.spool_back(opened.damaged_bytes);
-                self.next_ms = None;
-            }
-            Err(_) => self.next_ms = Some(now_ms.saturating_add(BETWEEN_OPENS_MS)),
+        if let Ok(opened) = place.open(self.alloc) {
+            sender.restore(rt, kept, opened.spool);
+            told.spool_back(opened.damaged_bytes);
+            self.is_failed = false;
         }
     }
 }

@@ -11,10 +11,11 @@ pub(crate) fn now_ms<R: Clock>(rt: &R) -> u64 {
     }
 }
 
-/// The moment now, in nanoseconds since 1970. It is 0 where the clock can't be read.
+/// The same moment, in nanoseconds. Waits go by it, so that they don't change where the clock of the
+/// day is set.
 pub(crate) fn now_ns<R: Clock>(rt: &R) -> u64 {
-    match rt.since_1970() {
-        Ok(since) => u64::try_from(since.as_nanos()).unwrap_or(u64::MAX),
+    match rt.monotonic() {
+        Ok(since_start) => u64::try_from(since_start.as_nanos()).unwrap_or(u64::MAX),
         Err(_) => 0,
     }
 }

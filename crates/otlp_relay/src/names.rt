@@ -1,6 +1,6 @@
 //! The names of lost spans, a line each.
-ghost use Rattle.std.specs.Prelude.{◌≡◌, ◌∷◌, [], OnOk, false};
-ghost use Rattle.std.specs.Io.KnownBytes.{Appends};
+ghost use Rattle.std.specs.Prelude.{◌≡◌, ◌∷◌, [], OnOk, false, true};
+ghost use Rattle.std.specs.Io.KnownBytes.{Appends, Keeps};
 ghost use Rattle.hex.specs.Hex.{encode_lower};
 ghost use Rattle.retry_core.specs.Retries.{fate_view};
 ghost use Rattle.otlp_relay.specs.Lines.{TakesLine, lost_line, reason_word};
@@ -14,8 +14,9 @@ use std::marker::Model;
 /// hexadecimal digits, and the reason in the words that a queue of spans has for it: `refused
 /// STATUS`, `bad-reply`, `attempts` or `abandoned` (profile).
 ///
-/// It takes no memory. After a write that failed nothing is written any more, and names are only
-/// counted. A line is written in several pieces: where a write is dear, the writer is a `LineWriter`.
+/// It takes no memory. After a write that failed nothing is written until [`LostLines::finish`], and
+/// names are only counted. A line is written in several pieces: where a write is dear, the writer is
+/// a `LineWriter`.
 /// In contracts it is a `LineSink`.
 #[derive(Debug, Drop)]
 pub struct LostLines<W> {
@@ -48,12 +49,37 @@ impl<W> LostLines<W> {
         }
     }
 
-    /// How many names were not written: the one whose write failed, of which a beginning may have
-    /// been written, and all after it. The count stops at 2^64 - 1.
+    /// How many names were not written: each one whose write failed, of which a beginning may have
+    /// been written, and all after it up to the next `finish`. The count stops at 2^64 - 1.
     pub fn unwritten(&self) -> u64
         ensures { result ≡ self.now.unwritten }
     {
         self.unwritten
+    }
+
+    /// What it writes to.
+    pub fn writer(&self) -> &W
+        ensures { result.now ≡ self.now.writer }
+    {
+        &self.writer
+    }
+}
+
+impl<W: Write> LostLines<W> {
+    /// Ends a row of names: what the writer holds back is written out. Answers whether each name
+    /// since the last call was written. After it names are written again, also where a write failed.
+    pub fn finish(&mut self) -> bool
+        ensures whole { result ≡ true → self.old.has_failed ≡ false }
+        ensures lines { self.new ≡ record self.old {
+          writer = self.new.writer;
+          has_failed = false;
+        } }
+        ensures bytes { Keeps (W.contents self.old.writer) (W.contents self.new.writer) }
+    {
+        let is_out = self.writer.flush().is_ok();
+        let is_whole = !self.has_failed;
+        self.has_failed = false;
+        is_out && is_whole
     }
 }
 

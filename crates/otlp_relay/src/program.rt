@@ -14,7 +14,10 @@ use crate::lost::lost_names;
 use crate::moments::now_ms;
 use crate::sending::Sending;
 use crate::serving::{Relay, failure_of, serve};
-use crate::settings::{config_of, enough_of, max_body_of, sends_of, settings_of, stop_ms_of};
+use crate::settings::{
+    config_of, enough_of, max_body_of, pending_of, refused_after_of, sends_of, settings_of,
+    stop_ms_of,
+};
 use crate::told::Told;
 use http_listener::{Dated, Peers, listen};
 use relay_queue::{BodyKeeper, BodySender, LostSink};
@@ -25,7 +28,7 @@ use relay_store::{
 use spool::{SpoolError, SpoolFolder};
 use std::alloc::Global;
 use std::fs::File;
-use std::io::Write;
+use std::io::{Input, Write};
 use std::net::{Net, SocketAddr, TcpListener, TcpStream};
 use std::os::fd::RawFd;
 use std::random::RandomSource;
@@ -42,7 +45,7 @@ const LOOK_MS: u64 = 10;
 pub struct Outside<L> {
     /// What opens the folder of a spool.
     pub folders: Folders,
-    /// The descriptor whose bytes, or whose end, stop the program.
+    /// The descriptor of standard input, whose bytes, or whose end, stop the program.
     pub input: RawFd,
     /// Where the thread that sends reports, and where the names of lost spans go.
     pub log: L,
@@ -57,7 +60,8 @@ pub struct Outside<L> {
 ///
 /// The answer is the program's status: 0 where it was stopped, and after help or the version, 1 where
 /// it can't listen at the address, open the spool or the file of names, start the thread, wait for
-/// connections or write a line, 2 where the words are bad, 3 where memory was refused.
+/// connections or write a line, or names of lost spans could not be written, 2 where the words are
+/// bad, 3 where memory was refused.
 ///
 /// The blank becomes the accounts of this relay, whose name `J` has: a program calls this with
 /// `Brand`.
@@ -73,7 +77,7 @@ pub fn run_relay<J, R, L, W, F>(
 where
     J: Naming + Send + Sync + 'static,
     R: Net<Listener = TcpListener, Stream = TcpStream> + Files<File = File> + Threads + Wait,
-    R: RandomSource + Clock + Copy + Send + Sync + 'static,
+    R: RandomSource + Clock + Input + Copy + Send + Sync + 'static,
     L: Write + Copy + Send + 'static,
     W: Write,
     F: Write,
@@ -104,7 +108,7 @@ fn relay<J, R, L, W, F>(
 where
     J: Naming + Send + Sync + 'static,
     R: Net<Listener = TcpListener, Stream = TcpStream> + Files<File = File> + Threads + Wait,
-    R: RandomSource + Clock + Copy + Send + Sync + 'static,
+    R: RandomSource + Clock + Input + Copy + Send + Sync + 'static,
     L: Write + Copy + Send + 'static,
     W: Write,
     F: Write,
@@ -171,7 +175,7 @@ impl<J, R, L> Run<J, R, L>
 where
     J: Naming + Send + Sync + 'static,
     R: Net<Listener = TcpListener, Stream = TcpStream> + Files<File = File> + Threads + Wait,
-    R: RandomSource + Clock + Copy + Send + Sync + 'static,
+    R: RandomSource + Clock + Input + Copy + Send + Sync + 'static,
     L: Write + Copy + Send + 'static,
 {
     /// Starts the thread that sends, and serves until the program is to stop. Then it ends the
@@ -210,11 +214,17 @@ where
         wait_for_end(&rt, &course, end_ms);
         course.enter(Phase::Over);
         self.end_sending(thread, &course, &mut closer, &mut names);
-        tell_unwritten(faults, names.unwritten());
-        print_balance(output, &service.service.keeper().report())?;
-        match served {
-            Ok(_) => Ok(()),
-            Err(failure) => Err(failure),
+        let report = service.service.keeper().report();
+        print_balance(output, &report)?;
+        if let Err(failure) = served {
+            return Err(failure);
+        }
+        match report
+            .unwritten_names
+            .saturating_add(names.take_unwritten())
+        {
+            0 => Ok(()),
+            unwritten => Err(Failure::Unwritten(unwritten)),
         }
     }
 
@@ -232,12 +242,17 @@ where
             return Err(Failure::OutOfMemory);
         };
         let (linger_ms, enough) = (args.linger_ms, enough_of(&args, mender.is_spooled()));
-        let RelayArgs { target, .. } = args;
+        let refused_after = refused_after_of(&args);
+        let RelayArgs {
+            target,
+            timeout_ms,
+            ..
+        } = args;
         let sending = Sending {
             rt,
             kept,
             sender,
-            exporter: collector(rt, alloc, target),
+            exporter: collector(rt, alloc, target, timeout_ms, refused_after),
             names,
             told: Told::new(self.log),
             mender,
@@ -246,6 +261,8 @@ where
             enough,
             received: 0,
             bytes: 0,
+            refusals: 0,
+            unwritten: 0,
         };
         sending.start(&rt)
     }
@@ -347,7 +364,10 @@ where
         return Err(Failure::OutOfMemory);
     };
     let keeper = SharedKeeper::new(rt, alloc, kept, poster, is_spooled);
-    let service = RelayService::new(alloc, keeper, hosts, max_body_of(args));
+    let pending = usize::try_from(pending_of(args)).unwrap_or(usize::MAX);
+    let service = RelayService::new(alloc, keeper, hosts, max_body_of(args)).with_max_pending(
+        pending,
+    );
     Ok(Dated::new(alloc, service, rt))
 }
 
@@ -360,16 +380,6 @@ fn wait_for_end<R: Clock>(rt: &R, course: &Course, end_ms: u64) {
             return;
         }
         thread::sleep(rt, Duration::from_millis(LOOK_MS));
-    }
-}
-
-/// Reports that names of lost spans could not be written, if it is so.
-fn tell_unwritten<F: Write>(faults: &mut F, unwritten: u64) {
-    if unwritten > 0 {
-        let _ = writeln!(
-            faults,
-            "otlp-relay: {unwritten} names of lost spans could not be written"
-        );
     }
 }
 

@@ -2,17 +2,20 @@
 
 use http::StatusCode;
 use http_listener::{Complaints, Line};
-use relay_service::Tallies;
+use relay_service::{Denial, Strays, Tallies};
 use std::io::Write;
 
 /// What a client or a user can do about a refusal. (profile)
 fn advice(status: u16) -> &'static str {
     match status {
-        400 => "the request or its body can't be read: post OTLP over HTTP/1.1",
-        403 => "allow the name under which it was asked by --host NAME",
+        400 => {
+            "the request or its body can't be read, or has identifiers of other lengths than 16 and \
+            8 bytes: the answer says which"
+        }
+        403 => "allow the name under which it was asked by --host NAME, or --host NAME:PORT",
         404 => "post traces to /v1/traces; nothing is at the path",
         405 => "post to /v1/traces, and get the other paths",
-        413 => "let the exporter send smaller batches, or raise --max-body",
+        413 => "let the exporter send smaller batches, or raise --max-body or --pending-mb",
         414 => "ask for a shorter target",
         415 => {
             "set the exporter's protocol to http/protobuf or http/json, its compression to gzip \
@@ -24,7 +27,7 @@ fn advice(status: u16) -> &'static str {
             "the collector takes less than comes; raise --memory-mb, --spool-mb or --pending-mb, \
             and see that the disk has room"
         }
-        505 => "ask by HTTP/1.1",
+        505 => "gRPC isn't taken: set OTEL_EXPORTER_OTLP_PROTOCOL=http/protobuf",
         _ => "the answer says why",
     }
 }
@@ -64,4 +67,21 @@ pub(crate) fn report<F: Write>(
             write_line(faults, code, line);
         }
     }
+}
+
+/// Writes a line on another signal that was posted to this path.
+fn write_stray<F: Write>(faults: &mut F, path: &str, denial: Denial) {
+    let why = denial.message();
+    let _ = writeln!(faults, "otlp-relay: refused a post to {path} ({why})");
+}
+
+/// Writes the lines on signals beside traces that were posted: one on each, once.
+pub(crate) fn report_strays<F: Write>(told: &mut Strays, strays: Strays, faults: &mut F) {
+    if strays.metrics && !told.metrics {
+        write_stray(faults, "/v1/metrics", Denial::NoMetrics);
+    }
+    if strays.logs && !told.logs {
+        write_stray(faults, "/v1/logs", Denial::NoLogs);
+    }
+    *told = strays;
 }

@@ -3,14 +3,16 @@
 use crate::course::{Course, Phase};
 use crate::failure::Failure;
 use crate::keeping::{Kept, Mender};
+use crate::lost::LostNames;
 use crate::moments::{now_ms, now_ns};
 use crate::told::Told;
 use http_exporter::ReportsFailure;
-use relay_queue::{LostSink, Report};
+use relay_exporter::OutageExporter;
+use relay_queue::Report;
 use relay_store::{Naming, RelaySender, Tried};
 use retry_core::Outcome;
-use span_exporter::Exporter;
 use spool::SpoolError;
+use std::fs::OpenFile;
 use std::io::Write;
 use std::random::RandomSource;
 use std::sync::Wait;
@@ -23,17 +25,20 @@ const STEP_MS: u64 = 50;
 /// A millisecond, in nanoseconds.
 const MS: u64 = 1_000_000;
 
+/// How long it is waited before names are written again that could not be, in milliseconds. (profile)
+const BETWEEN_NAMES_MS: u64 = 1_000;
+
 /// What the thread that sends has: what is kept, what takes batches from there, the exporter that
 /// it hands them to, and what the names of lost spans are given to. Where it finds nothing to send,
 /// or what is kept has just come, it waits for `linger_ms` milliseconds at most, until `enough`
 /// bytes more are kept.
 #[derive(Drop)]
-pub(crate) struct Sending<J: Naming, R, E, S, L> {
+pub(crate) struct Sending<J: Naming, R, E, N: Write + Drop, L: Write + Drop> {
     pub(crate) rt: R,
     pub(crate) kept: Kept<J>,
     pub(crate) sender: RelaySender<J>,
-    pub(crate) exporter: E,
-    pub(crate) names: S,
+    pub(crate) exporter: OutageExporter<E, R>,
+    pub(crate) names: LostNames<N, L>,
     pub(crate) told: Told<L>,
     pub(crate) mender: Mender,
     pub(crate) course: Course,
@@ -43,14 +48,18 @@ pub(crate) struct Sending<J: Naming, R, E, S, L> {
     // what was kept.
     pub(crate) received: u64,
     pub(crate) bytes: u64,
+    // What was last noted of what is kept: how many requests in a row the collector refused, and how
+    // many names are not written.
+    pub(crate) refusals: u64,
+    pub(crate) unwritten: u64,
 }
 
-impl<J, R, E, S, L> Sending<J, R, E, S, L>
+impl<J, R, E, N, L> Sending<J, R, E, N, L>
 where
     J: Naming + Send + Sync + 'static,
     R: Threads + Wait + Clock + RandomSource + Copy + Send + 'static,
-    E: Exporter + ReportsFailure + Send + Drop + 'static,
-    S: LostSink + Send + Drop + 'static,
+    E: ReportsFailure + Send + Drop + 'static,
+    N: Write + OpenFile + Send + Drop + 'static,
     L: Write + Send + Drop + 'static,
 {
     /// Starts the thread.
@@ -71,13 +80,13 @@ fn random_word<R: RandomSource>(rt: &R) -> u64 {
     }
 }
 
-impl<J, R, E, S, L> Sending<J, R, E, S, L>
+impl<J, R, E, N, L> Sending<J, R, E, N, L>
 where
     J: Naming,
     R: Wait + Clock + RandomSource + Copy,
-    E: Exporter + ReportsFailure,
-    S: LostSink,
-    L: Write,
+    E: ReportsFailure,
+    N: Write + OpenFile + Drop,
+    L: Write + Drop,
 {
     /// Sends until the run is over, or no more posts are taken and nothing is left to send.
     fn run(&mut self) {
@@ -102,12 +111,12 @@ where
                 self.gather();
             }
             Tried::Unjudged => self.judge(),
+            Tried::Unnamed => self.name_again(),
             Tried::Early(from) => self.wait_until(from),
             Tried::Nothing if phase != Phase::Serving => return false,
             Tried::Nothing => self.linger(),
             Tried::Failed(SpoolError::Full) => self.stay(),
             Tried::OutOfMemory | Tried::Failed(_) => self.pause(),
-            Tried::Unnamed => self.name_again(),
         }
         true
     }
@@ -129,13 +138,13 @@ where
         self.kept.lock(&self.rt).report()
     }
 
-    /// Looks at what is kept: whether there is nothing. It notes how many bodies were received until
-    /// now. (A file of the spool is read only where something is kept.)
+    /// Looks at what is kept: whether there is nothing, and all names are written. It notes how many
+    /// bodies were received until now. (A file of the spool is read only where something is kept.)
     fn finds_nothing(&mut self) -> bool {
         let report = self.report();
         self.received = report.bodies.received;
         self.bytes = report.waiting_bytes;
-        report.bodies.kept == 0
+        report.bodies.kept == 0 && self.unwritten == 0
     }
 
     /// Hands the next batch to the exporter, unless the run is over: who ends it sees that a batch is
@@ -159,25 +168,63 @@ where
         let _ = self
             .sender
             .finish(&self.rt, &self.kept, now, word, &mut self.names);
+        self.note_unwritten();
     }
 
-    /// Names what could not be named, once more.
+    /// Waits, and names what could not be named.
     fn name_again(&mut self) {
-        self.pause();
+        self.wait(BETWEEN_NAMES_MS);
         let _ = self
             .sender
             .name_again(&self.rt, &self.kept, &mut self.names);
+        self.note_unwritten();
     }
 
-    /// Reports an outcome that isn't a full success.
+    /// Notes how many names are not written, and reports it where there are more of them. With a
+    /// spool those that failed are given again.
+    fn note_unwritten(&mut self) {
+        let failed = self.names.take_unwritten();
+        let is_spooled = self.mender.is_spooled();
+        let unwritten = if is_spooled {
+            failed
+        } else {
+            self.unwritten.saturating_add(failed)
+        };
+        if failed > 0 {
+            let now = now_ms(&self.rt);
+            self.told.unwritten(is_spooled, now);
+        }
+        if unwritten != self.unwritten {
+            self.unwritten = unwritten;
+            self.kept.lock(&self.rt).set_unwritten(unwritten);
+        }
+    }
+
+    /// Notes whether the collector refuses whatever it is sent.
+    fn note_refusals(&mut self) {
+        let refusals = self.exporter.refusals();
+        if refusals != self.refusals {
+            self.refusals = refusals;
+            self.kept.lock(&self.rt).set_refusals(refusals);
+        }
+    }
+
+    /// Reports an outcome that isn't a full success, and the first one that is after refusals.
     fn tell(&mut self, outcome: Outcome) {
+        self.note_refusals();
+        let now = now_ms(&self.rt);
+        if matches!(outcome, Outcome::Delivered | Outcome::Partial(_)) {
+            self.told.takes_again(now);
+        }
         let Some(why) = self.exporter.last_failure() else {
             return;
         };
-        let now = now_ms(&self.rt);
         match outcome {
             Outcome::Delivered => {}
             Outcome::Partial(_) => self.told.partial(why, now),
+            Outcome::Later { .. } | Outcome::NoReply if self.refusals > 0 => {
+                self.told.refuses(why, now)
+            }
             _ => self.told.failed(why, now),
         }
     }
@@ -212,7 +259,7 @@ where
         }
     }
 
-    /// Waits until this moment, in nanoseconds since 1970, unless the run is over.
+    /// Waits until this moment, in nanoseconds of the clock's own, unless the run is over.
     fn wait_until(&mut self, from: u64) {
         let left = from.saturating_sub(now_ns(&self.rt));
         self.wait(left.div_ceil(MS));

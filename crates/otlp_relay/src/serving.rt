@@ -1,12 +1,12 @@
 //! The peers, which are served until the program is to stop.
 
 use crate::failure::Failure;
-use crate::report::report;
+use crate::report::{report, report_strays};
 use http_listener::{Complaints, Dated, End, Peers, Round};
 use relay_queue::BodyKeeper;
-use relay_service::{NoPieces, RelayService};
+use relay_service::{NoPieces, RelayService, Strays};
 use std::alloc::Global;
-use std::io::Write;
+use std::io::{Input, Read, Write};
 use std::net::Net;
 use std::random::RandomSource;
 use std::sync::Wait;
@@ -32,6 +32,13 @@ fn end_of(round: Round, end_ms: Option<u64>, stop_ms: u64) -> Option<u64> {
     }
 }
 
+/// Reads what was written to standard input to stop the program, 4,096 bytes at most: in a pipe it
+/// would stop the next one too that is started with it. What came is there, so this doesn't wait.
+fn take_request<R: Input>(rt: &R) {
+    let mut bytes = [0; 4_096];
+    let _ = rt.reader().read(&mut bytes);
+}
+
 /// Serves peers, round after round, and reports what was refused, until the program is to stop and
 /// what was begun is done. Answers the moment at which the stop ends, which takes `stop_ms`
 /// milliseconds.
@@ -44,11 +51,12 @@ pub(crate) fn serve<R, K, F>(
     stop_ms: u64,
 ) -> Result<u64, Failure>
 where
-    R: Net + Wait + RandomSource + Clock + Copy,
+    R: Net + Wait + RandomSource + Clock + Input + Copy,
     K: BodyKeeper,
     F: Write,
 {
     let mut complaints = Complaints::new(alloc);
+    let mut told = Strays::new();
     let mut end_ms = None;
     for _ in rt.forever() {
         let round = match peers.round_together(service) {
@@ -59,7 +67,11 @@ where
         for _ in 0..round.accepted {
             relay.count_connection();
         }
+        report_strays(&mut told, relay.strays(), faults);
         report(&mut complaints, relay.tallies(), faults, round.at_ms);
+        if round.is_to_stop {
+            take_request(&rt);
+        }
         let before = end_ms;
         end_ms = end_of(round, before, stop_ms);
         if let Some(end_ms) = end_ms {

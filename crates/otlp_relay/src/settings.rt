@@ -1,11 +1,11 @@
 //! What the arguments mean for the parts of the program.
-ghost use Rattle.std.specs.Prelude.{◌≡◌, ◌≤◌, ◌*◌, ◌-◌, min};
+ghost use Rattle.std.specs.Prelude.{◌≡◌, ◌≢◌, ◌≤◌, ◌*◌, ◌-◌, ◌/◌, None, Some, min};
 
 use crate::args::RelayArgs;
-use crate::keeping::SEGMENT_BYTES;
 use http_listener::Settings;
 use relay_queue::{BodyConfig, SendConfig};
 use retry_core::RetryConfig;
+use spool::RESERVED_BYTES;
 
 /// The bytes of a MiB.
 const MIB: u64 = 1_048_576;
@@ -35,6 +35,13 @@ pub(crate) fn max_body_of(args: &RelayArgs) -> usize
     usize::try_from(most).unwrap_or(usize::MAX)
 }
 
+/// How many bytes of requests and answers may be pending.
+pub(crate) fn pending_of(args: &RelayArgs) -> u64
+    ensures { args.now.pending_mb ≤ 1_048_576 → result ≡ args.now.pending_mb * 1_048_576 }
+{
+    args.pending_mb.saturating_mul(MIB)
+}
+
 /// How peers are served.
 pub(crate) fn settings_of(args: &RelayArgs) -> Settings
     ensures idle { result.times.idle_ms ≡ 300_000 }
@@ -42,16 +49,11 @@ pub(crate) fn settings_of(args: &RelayArgs) -> Settings
     ensures answer { result.times.answer_ms ≡ result.times.request_ms }
     ensures most { result.most ≡ 8_192 }
     ensures max_body { args.now.memory_mb ≤ 1_048_576 → result.limits.max_body
-        ≡ min args.now.max_body (args.now.memory_mb * 1_048_576 - 96) }
+        ≡ min (min args.now.max_body (args.now.memory_mb * 1_048_576 - 96)) (result.pending / 2) }
     ensures pending { args.now.pending_mb ≤ 1_048_576
         → result.pending ≡ args.now.pending_mb * 1_048_576 }
 {
-    Settings::new(
-        IDLE_MS,
-        REQUEST_MS,
-        max_body_of(args),
-        args.pending_mb.saturating_mul(MIB),
-    )
+    Settings::new(IDLE_MS, REQUEST_MS, max_body_of(args), pending_of(args))
 }
 
 /// How much is kept in memory, and how large requests to the collector are.
@@ -67,15 +69,27 @@ pub(crate) fn config_of(args: &RelayArgs) -> BodyConfig
     }
 }
 
-/// How many bytes the files of the spool may have.
+/// How many bytes the files of the spool may have that bodies are in: the others keep room for notes.
 pub(crate) fn spool_limit_of(args: &RelayArgs) -> u64
-    ensures { args.now.spool_mb ≤ 1_048_576 → result ≡ args.now.spool_mb * 1_048_576 }
+    ensures { args.now.spool_mb ≤ 1_048_576
+        → result ≡ args.now.spool_mb * 1_048_576 - 65_536 }
 {
-    args.spool_mb.saturating_mul(MIB)
+    args.spool_mb
+        .saturating_mul(MIB)
+        .saturating_sub(RESERVED_BYTES)
+}
+
+/// How many bytes a file of a spool with this limit has at most, unless it has a single body: an
+/// eighth of the limit, so that files are removed and give room while bodies wait, and at most
+/// 1 MiB, since one is read whole while posts wait for the lock. (profile)
+pub(crate) fn segment_bytes_of(limit: u64) -> u64
+    ensures { result ≡ min (limit / 8) 1_048_576 }
+{
+    (limit / 8).min(MIB)
 }
 
 /// So many bytes are enough for a batch, so that no other bodies are waited for: as many as it has
-/// at most, with a spool those of a file, or half of those that there is room for.
+/// at most, half of those that there is room for in memory, and with a spool those of a file.
 pub(crate) fn enough_of(args: &RelayArgs, is_spooled: bool) -> u64
     ensures { result ≤ args.now.batch_bytes }
 {
@@ -84,7 +98,7 @@ pub(crate) fn enough_of(args: &RelayArgs, is_spooled: bool) -> u64
     if !is_spooled {
         return most;
     }
-    most.min(SEGMENT_BYTES).min(spool_limit_of(args) / 2)
+    most.min(segment_bytes_of(spool_limit_of(args)))
 }
 
 /// For how many milliseconds it hands on once it is stopped.
@@ -101,6 +115,18 @@ pub(crate) fn sends_of(args: &RelayArgs) -> SendConfig {
         retry: retry.with_least_wait(LEAST_MS).unwrap_or(retry),
         attempts: attempts_of(args),
     }
+}
+
+/// After how many refusals in a row of all requests bodies are lost by them, if there is such a
+/// number.
+pub(crate) fn refused_after_of(args: &RelayArgs) -> Option<u64>
+    ensures none { args.now.refused_after ≡ 0 → result ≡ None }
+    ensures some { args.now.refused_after ≢ 0 → result ≡ Some args.now.refused_after }
+{
+    if args.refused_after == 0 {
+        return None;
+    }
+    Some(args.refused_after)
 }
 
 /// How often a batch is sent at most, if there is a last attempt.

@@ -12,6 +12,11 @@ pub(crate) struct Told<L> {
     // Of attempts after which a batch is sent again, or is lost.
     failed: Complaint,
     failures: u64,
+    // Since when the collector refuses whatever it is sent, in milliseconds, where it does.
+    refused_ms: Option<u64>,
+    // Of names that could not be written.
+    unwritten: Complaint,
+    unwritten_rows: u64,
     // Of partial successes.
     partial: Complaint,
     partials: u64,
@@ -32,6 +37,9 @@ impl<L> Told<L> {
             log,
             failed: Complaint::new(),
             failures: 0,
+            refused_ms: None,
+            unwritten: Complaint::new(),
+            unwritten_rows: 0,
             partial: Complaint::new(),
             partials: 0,
             spool: Complaint::new(),
@@ -66,6 +74,55 @@ impl<L: Write> Told<L> {
         if let Some(line) = line {
             write_failure(&mut self.log, "a batch wasn't taken", why, line);
         }
+    }
+
+    /// The collector refuses whatever it is sent, at this moment, in milliseconds. That is said once,
+    /// until it takes something.
+    pub(crate) fn refuses(&mut self, why: &Failure, now_ms: u64) {
+        if self.refused_ms.is_some() {
+            return;
+        }
+        self.refused_ms = Some(now_ms);
+        let _ = writeln!(
+            self.log,
+            "otlp-relay: the collector refuses whatever it is sent: {why}; nothing is lost by that, and \
+            it is tried again until the collector takes it; see that --to and --header are right"
+        );
+    }
+
+    /// The collector took a batch at this moment, in milliseconds. That is said where it refused
+    /// whatever it was sent.
+    pub(crate) fn takes_again(&mut self, now_ms: u64) {
+        let Some(refused_ms) = self.refused_ms.take() else {
+            return;
+        };
+        let seconds = now_ms.saturating_sub(refused_ms) / 1_000;
+        let _ = writeln!(
+            self.log,
+            "otlp-relay: the collector takes what it is sent again, after {seconds} seconds"
+        );
+    }
+
+    /// Names of lost spans could not be written, at this moment, in milliseconds.
+    pub(crate) fn unwritten(&mut self, is_spooled: bool, now_ms: u64) {
+        self.unwritten_rows = self.unwritten_rows.saturating_add(1);
+        let line = self.unwritten.line(self.unwritten_rows, now_ms);
+        self.unwritten = self.unwritten.after(line, self.unwritten_rows, now_ms);
+        if line.is_none() {
+            return;
+        }
+        let _ = if is_spooled {
+            writeln!(
+                self.log,
+                "otlp-relay: names of lost spans can't be written; their bodies stay in the spool, and \
+                nothing is sent until they are; see that the disk of --names has room"
+            )
+        } else {
+            writeln!(
+                self.log,
+                "otlp-relay: names of lost spans can't be written; see that the disk of --names has room"
+            )
+        };
     }
 
     /// A batch was taken but for some spans, at this moment, in milliseconds.
