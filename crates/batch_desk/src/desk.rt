@@ -47,7 +47,6 @@ struct TakenBatch {
 
 /// The queue of a batch processor (Trace SDK, "Batching processor"), with the batch that is out,
 /// the ledgers of dropped and of lost spans, and counts. After `new` no call takes memory.
-#[derive(Drop)]
 #[derive_where(Debug)]
 pub struct Desk<A: Allocator = Global> {
     ring: SpanRing<SpanData<A>, A>,
@@ -67,6 +66,30 @@ pub struct Desk<A: Allocator = Global> {
     late: u64,
     dropped: DropCounts,
     fates: FateCounts,
+}
+
+/// By hand: a derived one would be proved again in each crate that drops it.
+impl<A: Allocator> Drop for Desk<A> {
+    fn drop(self) {
+        let Self {
+            ring: _,
+            ledger: _,
+            lost: _,
+            delay_ms: _,
+            out: _,
+            next_ticket: _,
+            taken: _,
+            asked: _,
+            closed: _,
+            batches: _,
+            last_moment: _,
+            handed: _,
+            lost_count: _,
+            late: _,
+            dropped: _,
+            fates: _,
+        } = self;
+    }
 }
 
 impl<A: Allocator> Model for Desk<A> {

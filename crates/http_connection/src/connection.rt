@@ -44,7 +44,6 @@ pub(crate) enum Stage<P> {
 /// Read into it while it `wants_read`, and write from it while it `wants_write`. Call `advance`
 /// after each read and after each write, and while it `wants_advance`, as where a piece was empty.
 /// What to do beside that, its `phase` says.
-#[derive(Drop)]
 pub struct Connection<P> {
     pub(crate) alloc: Global,
     pub(crate) keys: RandomState,
@@ -62,6 +61,25 @@ pub struct Connection<P> {
     pub(crate) body: Vec<u8>,
     ghost bounded: { vec_len body ≤ limits.max_body },
     ghost whole_bounded: { ForSome (whole_at stage) (λ r. length (body_of r) ≤ limits.max_body) },
+}
+
+/// By hand: a derived one would be proved again in each crate that drops it.
+impl<P: Drop> Drop for Connection<P> {
+    fn drop(self) {
+        let Self {
+            alloc: _,
+            keys: _,
+            limits: _,
+            stage: _,
+            ended: _,
+            input: _,
+            output: _,
+            server: _,
+            request: _,
+            head_room: _,
+            body: _,
+        } = self;
+    }
 }
 
 /// A request of which nothing is known.

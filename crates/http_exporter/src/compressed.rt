@@ -40,13 +40,25 @@ pub trait CodesBodies: ReportsFailure {
 ///
 /// It keeps the last body and its file, and from the first attempt on 272 KB of tables. In contracts
 /// it is a `Compressing`.
-#[derive(Drop)]
 pub struct CompressedExporter<E, A: Allocator = Global> {
     exporter: E,
     alloc: A,
     is_on: bool,
     writer: Option<Gzip<A>>,
     kept: Option<BodyFile<A>>,
+}
+
+/// By hand: a derived one would be proved again in each crate that drops it.
+impl<E: Drop, A: Allocator> Drop for CompressedExporter<E, A> {
+    fn drop(self) {
+        let Self {
+            exporter: _,
+            alloc: _,
+            is_on: _,
+            writer: _,
+            kept: _,
+        } = self;
+    }
 }
 
 impl<E, A: Allocator> Model for CompressedExporter<E, A> {

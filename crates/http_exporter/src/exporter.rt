@@ -35,7 +35,6 @@ use std::marker::Model;
 /// An exporter that posts each body to a target, over a link of its own, and goes by the reply
 /// (OTLP Specification, "OTLP/HTTP Request", "OTLP/HTTP Response"). It doesn't say what it was
 /// handed. In contracts it is an `Exporting`.
-#[derive(Drop)]
 pub struct LinkExporter<D, A: Allocator = Global> {
     alloc: A,
     global: Global,
@@ -45,6 +44,22 @@ pub struct LinkExporter<D, A: Allocator = Global> {
     limits: HeadLimits,
     reads_after_a_stop: bool,
     last_failure: Option<Failure>,
+}
+
+/// By hand: a derived one would be proved again in each crate that drops it.
+impl<D: Drop, A: Allocator> Drop for LinkExporter<D, A> {
+    fn drop(self) {
+        let Self {
+            alloc: _,
+            global: _,
+            dial: _,
+            target: _,
+            coding: _,
+            limits: _,
+            reads_after_a_stop: _,
+            last_failure: _,
+        } = self;
+    }
 }
 
 impl<D, A: Allocator> Model for LinkExporter<D, A> {

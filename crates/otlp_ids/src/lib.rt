@@ -1,5 +1,5 @@
 //! Identifiers and contexts of spans (OpenTelemetry Trace API, "SpanContext"; W3C Trace Context),
-//! and what is answered where memory is refused.
+//! what is answered where memory is refused, and the version of the kit.
 #![tactic(auto)]
 
 ghost use Rattle.std.specs.Prelude.{◌≡◌, ◌≢◌, ◌*◌, ◌/◌, ◌%◌, ◌^◌, ◌<◌, ◌↔◌, ◌∷◌, [], false, IfOk};
@@ -20,6 +20,9 @@ use rand_core::Rng;
 use std::alloc::{AllocError, AllocFailed, Allocator, Global};
 use std::{fmt, str};
 use thiserror::Error;
+
+/// The version of the kit and of its programs.
+pub const VERSION: &str = "0.1.0";
 
 /// Memory was refused: a growth, or one more owner of an `Arc`. What was called is unchanged,
 /// unless it says otherwise.

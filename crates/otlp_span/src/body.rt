@@ -18,7 +18,6 @@ pub(crate) struct BlankSlip<A: Allocator> {
 }
 
 /// What a span is made of, in a box of its own from its start on.
-#[derive(Drop)]
 #[derive_where(Debug)]
 pub(crate) struct SpanBody<A: Allocator> {
     pub(crate) limits: SpanLimits,
@@ -38,4 +37,27 @@ pub(crate) struct SpanBody<A: Allocator> {
     pub(crate) status: Status<A>,
     // `None` once it was taken out.
     pub(crate) slip: Option<BlankSlip<A>>,
+}
+
+/// By hand: a derived one would be proved again in each crate that drops it.
+impl<A: Allocator> Drop for SpanBody<A> {
+    fn drop(self) {
+        let Self {
+            limits: _,
+            context: _,
+            parent: _,
+            parent_remote: _,
+            kind: _,
+            resource: _,
+            scope: _,
+            name: _,
+            start: _,
+            end: _,
+            attributes: _,
+            events: _,
+            links: _,
+            status: _,
+            slip: _,
+        } = self;
+    }
 }

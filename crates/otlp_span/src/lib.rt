@@ -18,5 +18,4 @@ pub use data::{SpanData, SpanRemains};
 pub use parts::{Event, Kind, Link, Open, Resource, Scope, SpanCall, SpanLimits, Status};
 pub use reason::Reason;
 pub use record::SpanRecord;
-pub use resource::VERSION;
 pub use slip::{Entries, Entry, Slip};

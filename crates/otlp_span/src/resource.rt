@@ -7,12 +7,9 @@ ghost use Rattle.otlp_span.specs.Resources.{name_or_unknown, overlaid, service_r
 
 use crate::pairs::{kept_attributes, set_all};
 use crate::parts::Resource;
-use otlp_ids::{OutOfMemory, copy_text};
+use otlp_ids::{OutOfMemory, VERSION, copy_text};
 use otlp_value::{Limits, Value};
 use std::alloc::Allocator;
-
-/// The version of the kit and of its programs.
-pub const VERSION: &str = "0.1.0";
 
 /// A resource has no limits (Common, "Attribute Limits").
 const NO_LIMITS: Limits = Limits {

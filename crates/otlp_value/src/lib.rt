@@ -99,12 +99,22 @@ pub struct Limits {
 
 /// Attributes under distinct keys, in the order in which the keys were first set (OpenTelemetry
 /// Common, "Attribute Limits"): as many as its limits allow.
-#[derive(Drop)]
 #[derive_where(Debug)]
 pub struct AttributeList<A: Allocator = Global> {
     limits: Limits,
     pairs: Vec<(String<A>, Value<A>), A>,
     dropped: u32,
+}
+
+/// By hand: a derived one would be proved again in each crate that drops it.
+impl<A: Allocator> Drop for AttributeList<A> {
+    fn drop(self) {
+        let Self {
+            limits: _,
+            pairs: _,
+            dropped: _,
+        } = self;
+    }
 }
 
 impl<A: Allocator> Model for AttributeList<A> {
@@ -178,7 +188,12 @@ impl<A: Allocator> AttributeList<A> {
     pub fn into_pairs(self) -> Vec<(String<A>, Value<A>), A>
         ensures { attributes_view result.items ≡ self.kept.items }
     {
-        self.pairs
+        let Self {
+            limits: _,
+            pairs,
+            dropped: _,
+        } = self;
+        pairs
     }
 }
 

@@ -8,5 +8,5 @@ mod read;
 
 pub use fault::{ArgFault, tell_unwritten};
 pub use line::{CommandLine, FlagOption, NumberOption, TextOption};
-pub use otlp_span::VERSION;
+pub use otlp_ids::VERSION;
 pub use read::OptionValues;

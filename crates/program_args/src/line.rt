@@ -9,7 +9,7 @@ use crate::fault::ArgFault;
 use clap::builder::ValueParser;
 use clap::error::ErrorKind;
 use clap::{Arg, ArgAction, Command, Error};
-use otlp_span::VERSION;
+use otlp_ids::VERSION;
 use std::alloc::Global;
 
 /// An option with a number after it: `--NAME NUMBER`, or `--NAME=NUMBER`.

@@ -39,7 +39,6 @@ const OVERHEAD: usize = 96;
 /// With a spool the desk has bodies of one of its files, the first ones that wait. Bodies that
 /// ended are noted in the spool as delivered, the lost ones too, once their spans are named: until
 /// then a crash brings them back.
-#[derive(Drop)]
 pub struct Keeping<D: Device> {
     alloc: Global,
     desk: BodyDesk,
@@ -57,6 +56,24 @@ pub struct Keeping<D: Device> {
     counts: Counts,
     // The newest names of lost spans, the last one last.
     lost: VecDeque<LostSpan>,
+}
+
+/// By hand: a derived one would be proved again in each crate that drops it.
+impl<D: Device + Drop> Drop for Keeping<D> {
+    fn drop(self) {
+        let Self {
+            alloc: _,
+            desk: _,
+            is_spooled: _,
+            spool: _,
+            has_failed: _,
+            first: _,
+            next: _,
+            start: _,
+            counts: _,
+            lost: _,
+        } = self;
+    }
 }
 
 impl<D: Device> Model for Keeping<D> {

@@ -21,13 +21,25 @@ use std::snapshot::Snapshot;
 use trace_api::Ended;
 
 /// What the lock of a processor guards until it is closed out, with the book of its accounts.
-#[derive(Drop)]
 pub(crate) struct Shared<J: Naming, E: Exporter, A: Allocator> {
     pub(crate) export: Option<ExportState<E, A>>,
     pub(crate) book: Book<J, SimpleState>,
     pub(crate) passes: usize,
     pub(crate) max_body: usize,
     pub(crate) began: Snapshot<E>,
+}
+
+/// By hand: a derived one would be proved again in each crate that drops it.
+impl<J: Naming, E: Exporter + Drop, A: Allocator> Drop for Shared<J, E, A> {
+    fn drop(self) {
+        let Self {
+            export: _,
+            book: _,
+            passes: _,
+            max_body: _,
+            began: _,
+        } = self;
+    }
 }
 
 impl<J: Naming, E: Exporter, A: Allocator> Model for Shared<J, E, A> {

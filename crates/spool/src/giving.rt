@@ -147,22 +147,4 @@ impl<D: Device> Spool<D> {
     {
         self.limit
     }
-
-    /// Gives the device back, to open it again.
-    pub fn into_device(self) -> D
-        ensures { result ≡ device_of self }
-    {
-        let Spool {
-            device,
-            table: _,
-            older: _,
-            growing: _,
-            done: _,
-            next: _,
-            size: _,
-            limit: _,
-            segment_limit: _,
-        } = self;
-        device
-    }
 }

@@ -4,7 +4,7 @@ ghost use Rattle.std.specs.Prelude.{true, false, Some, IsSome, MatchOption, OnOk
 ghost use Rattle.std.specs.Option.{option_to_list};
 ghost use Rattle.spool.specs.Disks.{grow_last};
 ghost use Rattle.spool.specs.Crashes.{Appended, LeavesOnly};
-ghost use Rattle.spool.specs.Settled.{IsSettled, IsSame, Grows, grown_by};
+ghost use Rattle.spool.specs.Settled.{IsSettled, IsSame, Grows, device_of, grown_by};
 ghost use Rattle.spool.specs.declared.state.Segment.{Segment};
 
 use crate::synced::{append_synced, create_synced};
@@ -29,7 +29,6 @@ pub(crate) struct Segment {
 }
 
 /// The files in which bodies wait until they are delivered, over a device that keeps them.
-#[derive(Drop)]
 pub struct Spool<D: Device> {
     pub(crate) device: D,
     pub(crate) table: CrcTable<Global>,
@@ -40,6 +39,43 @@ pub struct Spool<D: Device> {
     pub(crate) size: u64,
     pub(crate) limit: u64,
     pub(crate) segment_limit: u64,
+}
+
+/// By hand: a derived one would be proved again in each crate that drops it.
+impl<D: Device + Drop> Drop for Spool<D> {
+    fn drop(self) {
+        let Self {
+            device: _,
+            table: _,
+            older: _,
+            growing: _,
+            done: _,
+            next: _,
+            size: _,
+            limit: _,
+            segment_limit: _,
+        } = self;
+    }
+}
+
+impl<D: Device> Spool<D> {
+    /// Gives the device back, to open it again.
+    pub fn into_device(self) -> D
+        ensures { result ≡ device_of self }
+    {
+        let Spool {
+            device,
+            table: _,
+            older: _,
+            growing: _,
+            done: _,
+            next: _,
+            size: _,
+            limit: _,
+            segment_limit: _,
+        } = self;
+        device
+    }
 }
 
 /// Whether there is a file that can grow and takes so many more bytes. One without bodies always

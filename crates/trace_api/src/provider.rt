@@ -51,12 +51,22 @@ impl From<OutOfMemory> for StartFault {
 
 /// What the spans of a program have in common: what samples them, what makes them, and how much
 /// they keep (Trace API, "TracerProvider").
-#[derive(Drop)]
 #[derive_where(Debug; S)]
 pub struct Provider<S: Sampler, A: Allocator = Global> {
     sampler: S,
     resource: Arc<Resource<A>, A>,
     limits: SpanLimits,
+}
+
+/// By hand: a derived one would be proved again in each crate that drops it.
+impl<S: Sampler + Drop, A: Allocator> Drop for Provider<S, A> {
+    fn drop(self) {
+        let Self {
+            sampler: _,
+            resource: _,
+            limits: _,
+        } = self;
+    }
 }
 
 impl<S: Sampler, A: Allocator> Model for Provider<S, A> {

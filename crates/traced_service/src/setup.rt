@@ -27,8 +27,8 @@ use otel_settings::{
     Environment, NamedSampler, SamplerName, SettingFault, Settings, settings_of_environment,
 };
 use otlp_http::{Coding, Target};
-use otlp_ids::OutOfMemory;
-use otlp_span::{Resource, Scope, VERSION};
+use otlp_ids::{OutOfMemory, VERSION};
+use otlp_span::{Resource, Scope};
 use rand::make_rng;
 use rand::rngs::StdRng;
 use rand_core::Rng;
