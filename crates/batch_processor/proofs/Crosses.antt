@@ -21,6 +21,7 @@ use Rattle.batch_processor.specs.contracts.pass.Pass.TheInside as pass
 use Rattle.batch_processor.specs.contracts.lock.shared.Shared as Shared
 use Rattle.batch_processor.specs.contracts.lock.shared.Shared.TheInside as shared
 use Rattle.batch_processor.specs.contracts.config.Setup as Setup
+use Rattle.batch_processor.specs.contracts.lock.pace.Pace as Pace
 use Rattle.batch_processor.specs.contracts.steps.InHand as InHand
 use Rattle.batch_processor.specs.contracts.steps.InHand.TheInside as in_hand
 use Rattle.batch_processor.specs.contracts.steps.BatchSender as BatchSender
@@ -50,6 +51,9 @@ in_hand_send =
     let fields : FieldsHave IsSend (in_hand.the_type Heap.the_row ghosts).parts =
     search (sendable, as_row_send, variants_send, batch_send, sending_send) depth 60 fits 20000 in
     view_send _ _ _ _ _ (declared_send (in_hand.the_type Heap.the_row ghosts) fields)
+
+pace_send : IsSend Pace.the_row
+pace_send = search (sendable, declared_send, as_row_send, heap.crosses) depth 60 fits 20000
 
 setup_send : IsSend Setup.the_row
 setup_send = search (sendable, declared_send, as_row_send, heap.crosses) depth 60 fits 20000
@@ -101,7 +105,7 @@ module _ (J : RattleType) (g : naming.Ghosts J.Denot) where
           heap.Vec-send Outcome.the_row outcome_send,
           (
             heap.Vec-send (SpanData.the_row Heap.the_row ghosts) data_send,
-            (setup_send, tt),
+            (setup_send, (pace_send, tt)),
           ),
         ),
       )

@@ -70,8 +70,8 @@ abbrev pub has_work : Desk → Bool
 has_work desk = is_due desk 0 || (desk.closed && length desk.waiting == 0)
 
 -- What is woken for what a hold changed: the worker where what it waits for is so now and wasn't
--- before, as where a batch fills, or a flush or a shutdown asks; and flushes where a batch ended,
--- or the worker left.
+-- before, as where a flush or a shutdown asks; and flushes where a batch ended, or the worker left.
+-- The end of a span wakes nobody.
 abbrev pub wake_of : Guarded → Guarded → Wake
 wake_of old new = record {
   worker = has_work new.desk && not (has_work old.desk);

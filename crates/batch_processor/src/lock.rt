@@ -19,6 +19,7 @@ ghost use Rattle.retry_core.specs.Retries.{fate_view};
 ghost use Rattle.batch_processor.specs.Views.{after_answer, setup_view};
 
 mod hold;
+mod pace;
 mod shared;
 
 use crate::account::{Account, BatchState};
@@ -27,8 +28,10 @@ use crate::fault::WorkerLeft;
 use crate::pass::{Flushed, Pass};
 use account_book::{Book, Naming};
 use batch_desk::{Batch, Desk, DrainedNames, Mark, SettledBatch, Totals, loss_reason};
-use hold::{PAUSE_MS, Waits};
+use hold::Waits;
 use otlp_span::{Entry, Reason, SpanData, SpanRemains};
+use pace::PAUSE_MS;
+pub(crate) use pace::Pace;
 use retry_core::{Fate, Outcome};
 use shared::Shared;
 use std::alloc::{AllocError, Allocator};
@@ -39,10 +42,19 @@ use std::{mem, thread, time};
 use trace_api::Ended;
 
 /// The lock of a processor, with what it guards, and those that wait for what is done under it.
-#[derive(Drop)]
 pub(crate) struct Lock<J: Naming, A: Allocator> {
     shared: Mutex<Shared<J, A>>,
     waits: Waits,
+}
+
+/// By hand: a derived one would be proved again in each crate that drops it.
+impl<J: Naming, A: Allocator> Drop for Lock<J, A> {
+    fn drop(self) {
+        let Self {
+            shared: _,
+            waits: _,
+        } = self;
+    }
 }
 
 impl<J: Naming, A: Allocator + Copy> Lock<J, A> {
@@ -117,8 +129,7 @@ impl<J: Naming, R: Wait, A: Allocator + Copy> Holder<J, R, A> {
         ensures admits { AdmitsSpan (account_in self.old) span result.0 (account_in self.new) }
     {
         let mut hold = self.lock.shared.lock(&self.rt);
-        let after = hold.admit(&mut self.account, span);
-        self.lock.waits.end(hold, after)
+        hold.admit(&mut self.account, span)
     }
 
     /// A pass asks for all spans that were accepted so far, and shuts the processor down, or not.
@@ -250,13 +261,13 @@ impl<J: Naming, R: Wait, A: Allocator + Copy> Holder<J, R, A> {
 impl<J: Naming, R: Wait + time::Clock, A: Allocator + Copy> Holder<J, R, A> {
     /// Whether all is drained; if not, and no batch is due at this moment, the worker waits for a
     /// short time, or until it is woken.
-    pub(crate) fn drained(&mut self, now: u64) -> bool
+    pub(crate) fn drained(&mut self, now: u64, pace: &mut Pace) -> bool
         requires worker { self.old ≡ worker (origin_in self.old) (worker_in self.old) }
         ensures yes { IsTrue result → self.new ≡ on_worker after_drained self.old }
         ensures no { result ≡ false → self.new ≡ self.old }
     {
         let (waits, hold) = (&self.lock.waits, self.lock.shared.lock(&self.rt));
-        waits.for_work(&self.rt, hold, &mut self.account, now)
+        waits.for_work(&self.rt, hold, &mut self.account, now, pace)
     }
 
     /// Waits for a short time, without the lock.

@@ -7,7 +7,7 @@ ghost use Rattle.batch_processor.specs.Working.{IsReady, IsWorkingWith, StepsAsi
 ghost use Rattle.batch_processor.specs.Working.{begun, hand_at, in_hand, is_pending_in, work_in};
 
 use crate::config::Setup;
-use crate::lock::Holder;
+use crate::lock::{Holder, Pace};
 use account_book::Naming;
 use batch_desk::Batch;
 use batch_sending::{Attempted, Judged, Sending};
@@ -52,6 +52,7 @@ pub(crate) struct BatchSender<J: Naming, R, A: Allocator> {
     // Where the spans of a batch go that is settled.
     pub(crate) spent: Vec<SpanData<A>, A>,
     pub(crate) setup: Setup,
+    pub(crate) pace: Pace,
 }
 
 impl<J: Naming, R, A: Allocator> Model for BatchSender<J, R, A> {

@@ -11,7 +11,7 @@ ghost use Rattle.batch_processor.specs.Views.{setup_view};
 ghost use Rattle.batch_processor.specs.Working.{GoesOn, IsPrepared};
 
 use crate::config::Setup;
-use crate::lock::Holder;
+use crate::lock::{Holder, Pace};
 use crate::steps::{BatchSender, InHand};
 use account_book::Naming;
 use rand_core::Rng;
@@ -111,7 +111,7 @@ impl<J: Naming, R: Wait + time::Clock + Drop, A: Allocator + Copy> WorkerPass<J,
         let Some(hand) = self.in_hand.take() else {
             let now = clock.now();
             let Some(hand) = self.sender.take(now) else {
-                return self.sender.holder.drained(now);
+                return self.sender.holder.drained(now, &mut self.sender.pace);
             };
             keep(&mut self.in_hand, Some(hand));
             return false;
@@ -171,6 +171,7 @@ impl<J: Naming, R: Wait + Drop, A: Allocator + Copy> WorkerPass<J, R, A> {
             outcomes,
             spent,
             setup,
+            pace: Pace::default(),
         };
         Ok(WorkerPass {
             sender,

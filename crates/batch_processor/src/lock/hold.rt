@@ -5,6 +5,7 @@ ghost use Rattle.model_processor.specs.AnyAccounts.{account_in, after_drained, o
 ghost use Rattle.model_processor.specs.AnyAccounts.{origin_in, pass, worker, worker_in};
 ghost use Rattle.batch_processor.specs.Views.{after_answer};
 
+use super::pace::Pace;
 use super::shared::Shared;
 use crate::account::Account;
 use crate::fault::WorkerLeft;
@@ -30,9 +31,9 @@ pub(super) struct After<T> {
     pub(super) value: T,
 }
 
-/// Where threads wait: the worker for a batch to fill, or for a flush or a shutdown; and flushes
-/// for a batch to end, or for the worker to leave. It can't take the lock. So a call that is handed
-/// a hold looks and waits in this very hold, and misses no wake-up.
+/// Where threads wait: the worker for a flush or a shutdown, or until it looks again whether a
+/// batch is due; and flushes for a batch to end, or for the worker to leave. It can't take the
+/// lock. So a call that is handed a hold looks and waits in this very hold, and misses no wake-up.
 #[derive(Default, Drop)]
 pub(super) struct Waits {
     to_do: Condvar,
@@ -90,6 +91,7 @@ impl Waits {
         mut hold: MutexGuard<'_, Shared<J, A>>,
         account: &mut Account<J>,
         now: u64,
+        pace: &mut Pace,
     ) -> bool
         requires worker { account.old ≡ worker (origin_in account.old) (worker_in account.old) }
         ensures yes { IsTrue result → account.new ≡ on_worker after_drained account.old }
@@ -99,12 +101,9 @@ impl Waits {
             return true;
         }
         if !hold.is_due(now) {
-            self.to_do
-                .wait_timeout(rt, hold, Duration::from_millis(PAUSE_MS));
+            let pause = Duration::from_millis(pace.next_ms(hold.accepted()));
+            self.to_do.wait_timeout(rt, hold, pause);
         }
         false
     }
 }
-
-/// How long the worker waits where nothing says for how long, in milliseconds.
-pub(super) const PAUSE_MS: u64 = 5;

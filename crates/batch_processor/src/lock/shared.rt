@@ -2,7 +2,7 @@
 ghost use Rattle.std.specs.Prelude.{◌≡◌, ◌≤◌, ◌&&◌, ◌||◌, not, vec_len, true, false, None, [], ◌++◌};
 ghost use Rattle.std.specs.Prelude.{drop, IfSome, IfNone, IsPermutation, IsTrue, is_none, is_some};
 ghost use Rattle.std.specs.Prelude.{option_map, option_to_list, reverse};
-ghost use Rattle.model_desk.specs.Desks.{is_due};
+ghost use Rattle.model_desk.specs.Desks.{accepted_count, is_due};
 ghost use Rattle.batch_desk.specs.Desk.{admission, after_admission, after_loss, after_names};
 ghost use Rattle.batch_desk.specs.Desk.{is_queued};
 ghost use Rattle.model_processor.specs.Passes.{after_drain, after_pop, after_pop_lost};
@@ -107,25 +107,24 @@ impl<J: Naming, A: Allocator + Copy> Shared<J, A> {
     }
 
     /// A span ends on a pass. What is left of it where it doesn't wait is handed out, and else a
-    /// span that was sent, if one is left: both are to be freed once the hold is over.
+    /// span that was sent, if one is left: both are to be freed once the hold is over. It wakes
+    /// nobody: the worker finds a batch that filled when it looks next.
     pub(super) fn admit(
         &mut self,
         account: &mut Account<J>,
         span: SpanData<A>,
-    ) -> After<(Ended, Option<SpanRemains<A>>, Option<SpanData<A>>)>
+    ) -> (Ended, Option<SpanRemains<A>>, Option<SpanData<A>>)
         requires { account.old ≡ pass (account_in account.old) }
         ensures hold { InHold self.old (account_in account.old) }
-        ensures answer { result.value.0 ≡ ended_of (admission self.old.desk) }
-        ensures account { account.new ≡ on_pass (after_end result.value.0 span) account.old }
+        ensures answer { result.0 ≡ ended_of (admission self.old.desk) }
+        ensures account { account.new ≡ on_pass (after_end result.0 span) account.old }
         ensures desk { self.new ≡ record self.old {
           desk = after_admission (admission self.old.desk) span self.old.desk;
           spent = self.new.spent;
         } }
-        ensures remains { is_none result.value.1 ≡ is_queued (admission self.old.desk) }
-        ensures spent { self.old.spent ≡ self.new.spent ++ option_to_list result.value.2 }
-        ensures wake { result.wake ≡ wake_of self.old self.new }
+        ensures remains { is_none result.1 ≡ is_queued (admission self.old.desk) }
+        ensures spent { self.old.spent ≡ self.new.spent ++ option_to_list result.2 }
     {
-        let was = self.awaited();
         let seen = Snapshot::of(&span);
         let (admitted, remains) = self.desk.offer(span);
         let answer = ended_of(admitted);
@@ -135,7 +134,7 @@ impl<J: Naming, A: Allocator + Copy> Shared<J, A> {
             None => self.spent.pop(),
             Some(_) => None,
         };
-        self.after(was, (answer, remains, spent))
+        (answer, remains, spent)
     }
 
     /// Leaves the spans of a batch that was sent to the threads that end others, where half a batch
@@ -262,6 +261,13 @@ impl<J: Naming, A: Allocator + Copy> Shared<J, A> {
         let batch = self.desk.take(now)?;
         self.book.record::<Batch<A>, Takes>(account, &batch);
         Some(batch)
+    }
+
+    /// How many spans were accepted so far.
+    pub(super) fn accepted(&self) -> u64
+        ensures { result ≡ accepted_count self.now.desk }
+    {
+        self.desk.totals().accepted
     }
 
     /// Whether a batch is due at this moment.

@@ -332,18 +332,20 @@ fn a_batch_without_a_reply_waits_as_its_word_says(rt: HostRuntime) {
     }
 }
 
-/// A turn waits for five milliseconds where no span waits, a batch isn't full, or it isn't time yet
-/// to send one again. So twenty turns take no less than forty, though some may be woken early: the
-/// worker takes no processor meanwhile.
+/// A turn waits for a millisecond where no span waits or a batch isn't full, and for five once a
+/// thousand looks found no further span, or where it isn't time yet to send a batch again. So turns
+/// take about that, though some may be woken early: the worker takes no processor meanwhile.
 #[test]
 fn idle_turns_take_their_time(rt: HostRuntime) {
     let sent = " Queued(0) 1 1 true accepted 1 taken 1 handed 1 lost 1 abandoned 1 (0, LeftHanded)";
-    for (batch, spans, want) in [
-        (4, 0, " Late 0 0 true"),
-        (4, 1, " Queued(0) 0 0 true accepted 1 left 1"),
-        (1, 1, sent),
+    let waits = " Queued(0) 0 0 true accepted 1 left 1";
+    for (batch, spans, turns, least_ms, want) in [
+        (4, 0, 20, 10, " Late 0 0 true"),
+        (4, 1, 20, 10, waits),
+        (4, 1, 1_500, 2_500, waits),
+        (1, 1, 20, 50, sent),
     ] {
-        let steps = [End(spans), Work(0, 4), Idle(SECOND, 20)];
+        let steps = [End(spans), Work(0, 4), Idle(SECOND, turns, least_ms)];
         let case = case(config(8, batch), &[IN_TWO_SECONDS], &steps);
         assert_answers(rt, rt.alloc(), &case, want);
     }

@@ -53,8 +53,8 @@ pub(crate) enum Step {
     /// It works so often, in this number of turns each time, while a minute passes between two
     /// looks at the clock.
     WorkOn(u32, u64),
-    /// As `Work`, and whether each turn took two milliseconds or more.
-    Idle(u64, u64),
+    /// As `Work`, and whether all turns took no less than so many milliseconds.
+    Idle(u64, u64, u64),
     /// The worker leaves.
     Leave,
     /// The next word of the generator from which waits are drawn.
@@ -160,7 +160,7 @@ fn ask<J: Naming, R: Wait + Abort, A: Allocator + Copy>(
 /// many turns.
 fn work_of(step: Step) -> Option<(u64, u64, u32, u64)> {
     match step {
-        Step::Work(moment, turns) | Step::Idle(moment, turns) => Some((moment, 0, 1, turns)),
+        Step::Work(moment, turns) | Step::Idle(moment, turns, _) => Some((moment, 0, 1, turns)),
         Step::WorkOn(times, turns) => Some((MINUTE, MINUTE, times, turns)),
         _ => None,
     }
@@ -233,9 +233,9 @@ where
         let clock = SystemClock::new(rt);
         let began = clock.now();
         work(rt, worker, exporter, &mut rng, *step, notes);
-        if let Step::Idle(_, turns) = *step {
+        if let Step::Idle(_, _, least_ms) = *step {
             let took = clock.now().saturating_sub(began);
-            note(&rt, notes, took >= turns.saturating_mul(2_000_000));
+            note(&rt, notes, took >= least_ms.saturating_mul(1_000_000));
         }
     }
 }
