@@ -91,11 +91,18 @@ grouped n =
 abbrev pub address_html : List ℕ → Html
 address_html host = text_after (codes "http://") host
 
+-- the settings by which an SDK posts its traces here, and nothing else
+unfoldable pub settings_html : List ℕ → Html
+settings_html host =
+    Markup (codes "<pre>OTEL_EXPORTER_OTLP_ENDPOINT=") ▹ address_html host
+    ▹ Markup (codes "\nOTEL_EXPORTER_OTLP_PROTOCOL=http/protobuf")
+    ▹ Markup (codes "\nOTEL_METRICS_EXPORTER=none\nOTEL_LOGS_EXPORTER=none</pre>")
+
 -- where traces are to be sent, since none is here
 unfoldable pub empty_html : List ℕ → Html
 empty_html host =
     Markup (codes "<p>No trace is here yet. Post traces to <code>") ▹ address_html host
-    ▹ Markup (codes "/v1/traces</code>.</p>")
+    ▹ Markup (codes "/v1/traces</code>. An SDK does, set so:</p>") ▹ settings_html host
 
 -- that none of so many traces is in the list
 unfoldable pub none_html : ℕ → Html
@@ -128,13 +135,19 @@ unfoldable pub table_html : List ℕ → List Summary → Html
 table_html query summaries =
     Markup (codes "</header><main><table><tr><th>Name<th>Service<th>Spans<th>Errors")
     ▹ Markup (codes "<th>Duration<th>Start (UTC)") ▹ each (summary_html query) summaries
-    ▹ Markup (codes "</table></main></html>")
+    ▹ Markup (codes "</table></main>")
 
--- the page: a row for each of these, in this order
+-- which version made the page
+unfoldable pub foot_html : List ℕ → Html
+foot_html version =
+    Markup (codes "<footer>Dulhafrin ") ▹ Text version ▹ Markup (codes "</footer></html>")
+
+-- the page of this version: a row for each of these, in this order
 unfoldable pub list_html : {A : Type 0}
-    → Filter A → List ℕ → List ℕ → List Summary → ℕ → Html
-list_html filter query host summaries total =
+    → List ℕ → Filter A → List ℕ → List ℕ → List Summary → ℕ → Html
+list_html version filter query host summaries total =
     list_head_html filter ▹ shown_html host (length summaries) total ▹ table_html query summaries
+    ▹ foot_html version
 
 -- the page that says why there is no other
 unfoldable pub notice_html : List ℕ → List ℕ → List ℕ → Html

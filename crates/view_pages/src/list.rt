@@ -2,7 +2,8 @@
 
 ghost use Rattle.std.specs.Prelude.{OnOk};
 ghost use Rattle.view_pages.specs.Html.{Appends, each};
-ghost use Rattle.view_pages.specs.Lists.{empty_html, form_html, grouped, list_head_html, list_html};
+ghost use Rattle.view_pages.specs.Lists.{empty_html, foot_html, form_html, grouped, list_head_html};
+ghost use Rattle.view_pages.specs.Lists.{list_html, settings_html};
 ghost use Rattle.view_pages.specs.Lists.{millions, name_html, none_html, notice_html, root_html};
 ghost use Rattle.view_pages.specs.Lists.{short_html, shown_html, sizes_html, some_html};
 ghost use Rattle.view_pages.specs.Lists.{summary_html, table_html, texts_html, thousands};
@@ -12,7 +13,7 @@ use crate::date::{push_second, push_three};
 use crate::html::{push_after, push_digits, push_if, push_markup, push_number, push_text};
 use crate::page::push_start;
 use crate::times::push_duration;
-use otlp_ids::OutOfMemory;
+use otlp_ids::{OutOfMemory, VERSION};
 use std::alloc::Allocator;
 use trace_lines::{Filter, Summary, front_of};
 
@@ -172,13 +173,27 @@ fn push_grouped<A: Allocator>(out: &mut String<A>, number: u64) -> Result<(), Ou
     }
 }
 
+/// Appends the settings by which an SDK posts its traces here, and nothing else.
+fn push_settings<A: Allocator>(out: &mut String<A>, host: &str) -> Result<(), OutOfMemory>
+    ensures { OnOk result (Appends out.old out.new (settings_html host.now)) }
+{
+    push_markup(out, "<pre>OTEL_EXPORTER_OTLP_ENDPOINT=")?;
+    push_after(out, "http://", host)?;
+    push_markup(out, "\nOTEL_EXPORTER_OTLP_PROTOCOL=http/protobuf")?;
+    push_markup(
+        out,
+        "\nOTEL_METRICS_EXPORTER=none\nOTEL_LOGS_EXPORTER=none</pre>",
+    )
+}
+
 /// Appends where traces are to be sent, since none is here.
 fn push_empty<A: Allocator>(out: &mut String<A>, host: &str) -> Result<(), OutOfMemory>
     ensures { OnOk result (Appends out.old out.new (empty_html host.now)) }
 {
     push_markup(out, "<p>No trace is here yet. Post traces to <code>")?;
     push_after(out, "http://", host)?;
-    push_markup(out, "/v1/traces</code>.</p>")
+    push_markup(out, "/v1/traces</code>. An SDK does, set so:</p>")?;
+    push_settings(out, host)
 }
 
 /// Appends that none of the traces that are kept is in the list.
@@ -245,7 +260,16 @@ fn push_table<A: Allocator + Copy>(
     )?;
     push_markup(out, "<th>Duration<th>Start (UTC)")?;
     push_summaries(out, query, summaries)?;
-    push_markup(out, "</table></main></html>")
+    push_markup(out, "</table></main>")
+}
+
+/// Appends which version made the page.
+fn push_foot<A: Allocator>(out: &mut String<A>) -> Result<(), OutOfMemory>
+    ensures { OnOk result (Appends out.old out.new (foot_html VERSION.now)) }
+{
+    push_markup(out, "<footer>Dulhafrin ")?;
+    push_text(out, VERSION)?;
+    push_markup(out, "</footer></html>")
 }
 
 /// Appends the list of traces (profile): the form of the filter, and a row for each of these, in
@@ -257,7 +281,8 @@ fn push_table<A: Allocator + Copy>(
 /// says how many traces are kept, in the list or not: where that are more than there are rows, the
 /// page says so. `host` is the host with its port, as a `Host` field has it (RFC 9110, 7.2); where
 /// no trace is kept, the page says that traces are posted to `http://HOST/v1/traces`, or to the
-/// path alone where `host` is empty.
+/// path alone where `host` is empty, and by which settings an SDK does that. Its foot says which
+/// version of the kit made it.
 ///
 /// # Errors
 ///
@@ -271,11 +296,13 @@ pub fn write_list_page<A: Allocator + Copy>(
     total: u64,
 ) -> Result<(), OutOfMemory>
     ensures { OnOk result
-        (Appends out.old out.new (list_html filter.now query.now host.now summaries.now total)) }
+        (Appends out.old out.new
+        (list_html VERSION.now filter.now query.now host.now summaries.now total)) }
 {
     push_list_head(out, filter)?;
     push_shown(out, host, summaries.len() as u64, total)?;
-    push_table(out, query, summaries)
+    push_table(out, query, summaries)?;
+    push_foot(out)
 }
 
 /// Appends a page that says in a few words why there is no other, and what to do: both are texts.

@@ -31,6 +31,7 @@ code, dd, .took, pre { font-family: ui-monospace, 'DejaVu Sans Mono', monospace;
 code, dd { font-size: 0.92em; }
 b, dt, dd, h5, td { unicode-bidi: isolate; }
 [hidden] { display: none !important; }
+footer { padding: 0.5rem 1.25rem; color: var(--soft); font-size: 0.78rem; }
 .rows { list-style: none; margin: 0; padding: 0 0 2rem; }
 .row { display: block; border-bottom: 1px solid var(--line); content-visibility: auto;
   contain-intrinsic-size: auto 30px; scroll-margin-top: 2rem; }

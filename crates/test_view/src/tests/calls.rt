@@ -55,7 +55,7 @@ const ROWS: [(Call, &str); 11] = [
             "<p>Showing 1 of 2</p></header>",
             "<main><table><tr><th>Name<th>Service<th>Spans<th>Errors<th>Duration<th>Start (UTC)",
             "<tr><td><a href='/trace/00000000000000000000000000000abc?q=&lt;'>&lt;root&gt;</a>",
-            "<td>shop&lt;<td>3<td>1<td>1.50 s<td>2026-09-21 14:13:20</table></main></html>",
+            "<td>shop&lt;<td>3<td>1<td>1.50 s<td>2026-09-21 14:13:20</table></main><footer>Dulhafrin ",
         ),
     ),
     (

@@ -6,4 +6,5 @@ pub returns : goal.returns
 unfolding empty_html
 returns g c =
     after _ _ _ _ _ _ c.in_ok-push_markup.ensures
-    (after _ _ _ _ _ _ c.in_ok-push_after.ensures c.push_markup-2.ensures)
+    (after _ _ _ _ _ _ c.in_ok-push_after.ensures
+    (after _ _ _ _ _ _ c.in_ok-push_markup-2.ensures c.push_settings.ensures))

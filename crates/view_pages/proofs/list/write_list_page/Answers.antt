@@ -6,4 +6,5 @@ pub returns : goal.returns
 unfolding list_html
 returns g c =
     after _ _ _ _ _ _ c.in_ok-push_list_head.ensures
-    (after _ _ _ _ _ _ c.in_ok-push_shown.ensures c.push_table.ensures)
+    (after _ _ _ _ _ _ c.in_ok-push_shown.ensures
+    (after _ _ _ _ _ _ c.in_ok-push_table.ensures c.push_foot.ensures))
