@@ -11,6 +11,7 @@ use Rattle.model_message.specs.Messages.{Triple, body_meaning}
 use Rattle.model_message.specs.Reading.{done}
 use Rattle.model_message.specs.Canon.{row_bytes}
 use Rattle.otlp_json.specs.Bodies.{body_bytes, bytes_after, request_fields, whole}
+use Rattle.otlp_json.specs.Posted.{or_mended}
 use Rattle.otlp_json.specs.declared.fault.JsonFault.TheVariants as faults
 use Rattle.trace_store.specs.declared.span.ViewSpan.{ViewSpan}
 use Rattle.view_json.specs.Pieces.{IsJsonText}
@@ -55,8 +56,9 @@ trace_is_read_back A spans text sound json =
     let triples = map kept_triple spans in
     let all = all_sound spans sound in (
       row_bytes (request_row triples),
-      text_means triples text all
-          (subst (λ what. IsJsonText false what text) (trace_is spans) json),
+      ap (λ read. or_mended read text)
+          (text_means triples text all
+          (subst (λ what. IsJsonText false what text) (trace_is spans) json)),
       λ small. request_back triples all small ∙ ap done (back_again spans),
     )
 

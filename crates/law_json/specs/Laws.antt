@@ -5,7 +5,7 @@ use Rattle.std.specs.declared.sync.Arc.{Arc}
 use Rattle.base64.specs.GeneralPurpose.{IsBytes}
 use Rattle.model_message.specs.Messages.{Triple, body_meaning}
 use Rattle.model_message.specs.Reading.{done}
-use Rattle.otlp_json.specs.Bodies.{body_bytes}
+use Rattle.otlp_json.specs.Posted.{posted_bytes}
 use Rattle.trace_store.specs.declared.span.ViewSpan.{ViewSpan}
 use Rattle.view_json.specs.Pieces.{IsJsonText}
 use Rattle.view_json.specs.Spans.{trace_seen}
@@ -18,7 +18,7 @@ use Rattle.law_json.specs.Sound.{IsSoundTriple}
 -- (opentelemetry-proto, "JSON Protobuf Encoding")
 abbrev pub MeansSpans : {A : Type 0} → List (Arc (ViewSpan A) A) → List ℕ → Type 0
 MeansSpans spans text =
-    (bytes : List ℕ) × (body_bytes text ≡ Ok bytes)
+    (bytes : List ℕ) × (posted_bytes text ≡ Ok bytes)
     × (length bytes < 2 ^ 64
     → body_meaning bytes ≡ done (map (λ kept. triple_back (kept_triple kept)) spans))
 

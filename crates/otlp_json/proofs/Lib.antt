@@ -4,3 +4,4 @@ pub mod Outcomes
 pub mod Wholes
 pub mod OnLiterals
 pub mod Chains
+pub mod Pieces

@@ -7,3 +7,5 @@ pub mod Writing
 pub mod MessageNames
 pub mod LeafNames
 pub mod Seen
+pub mod Mended
+pub mod Posted

@@ -2,10 +2,13 @@
 
 ghost use Rattle.otlp_json.specs.Bodies as spec;
 ghost use Rattle.otlp_json.specs.Bodies.{body_bytes};
+ghost use Rattle.otlp_json.specs.Mended.{mended};
+ghost use Rattle.otlp_json.specs.Posted.{posted_bytes};
 ghost use Rattle.otlp_json.specs.Writing.{Leaves, Reads};
 
 use crate::fault::{JsonError, JsonFault, Stop};
 use crate::leaf::mismatch;
+use crate::mend::mend;
 use crate::names::Message;
 use crate::walk::{next, object};
 use json::{Reader, Scratch, Token};
@@ -34,16 +37,9 @@ fn request<A: Allocator + Copy>(
     Ok(())
 }
 
-/// The bytes of the request that a text of OTLP's JSON is (opentelemetry-proto, "JSON Protobuf
-/// Encoding"): fields in the order of the text's members, lengths as the shortest varints. Reading
-/// takes as much memory as the text has bytes, and the output.
-///
-/// # Errors
-///
-/// `Fault` with the first fault of the text, and about where it is. `OutOfMemory` where memory was
-/// refused.
+/// The bytes of the request that a text is, where it is JSON.
 #[tactic(auto, unfolding(crate::specs::Bodies::request_fields))]
-pub fn read_body<A: Allocator + Copy>(alloc: A, text: &[u8]) -> Result<Vec<u8, A>, JsonError>
+fn read_json<A: Allocator + Copy>(alloc: A, text: &[u8]) -> Result<Vec<u8, A>, JsonError>
     ensures { Reads result (body_bytes text.now) }
 {
     let Ok(text) = str::from_utf8(text) else {
@@ -64,5 +60,38 @@ pub fn read_body<A: Allocator + Copy>(alloc: A, text: &[u8]) -> Result<Vec<u8, A
             fault,
             offset: reader.offset(),
         }),
+    }
+}
+
+/// The same with U+FFFD for each surrogate that is alone.
+fn read_mended<A: Allocator + Copy>(alloc: A, text: &[u8]) -> Result<Vec<u8, A>, JsonError>
+    ensures { Reads result (body_bytes (mended text.now)) }
+{
+    match mend(alloc, text) {
+        Ok(mended) => read_json(alloc, mended.as_slice()),
+        Err(_) => Err(JsonError::OutOfMemory),
+    }
+}
+
+/// The bytes of the request that a text of OTLP's JSON is (opentelemetry-proto, "JSON Protobuf
+/// Encoding"): fields in the order of the text's members, lengths as the shortest varints. A
+/// surrogate that is alone, as in `"Ann\ud83d"`, is read as U+FFFD. (profile) Reading takes as much
+/// memory as the text has bytes, twice as much where it is no JSON as it came, and the output.
+///
+/// # Errors
+///
+/// `Fault` with the first fault of the text, and about where it is. `OutOfMemory` where memory was
+/// refused.
+pub fn read_body<A: Allocator + Copy>(alloc: A, text: &[u8]) -> Result<Vec<u8, A>, JsonError>
+    ensures { Reads result (posted_bytes text.now) }
+{
+    match read_json(alloc, text) {
+        Err(
+            JsonError::Fault {
+                fault: JsonFault::Malformed,
+                ..
+            },
+        ) => read_mended(alloc, text),
+        read => read,
     }
 }

@@ -10,6 +10,7 @@
 //!   of either alphabet, with or without padding.
 //! - A number is a number or, but for an enumeration, a text that has one. A whole number may have
 //!   a point or an exponent, as `1e3`.
+//! - A surrogate that is alone, as in `"Ann\ud83d"`, is read as U+FFFD.
 //! - A name that comes again in an object means what a field means that comes again in bytes: of
 //!   numbers, texts and kinds of values the last counts, messages are merged, lists are joined.
 //!
@@ -20,6 +21,7 @@ mod body;
 mod fault;
 pub mod field;
 mod leaf;
+mod mend;
 mod names;
 mod number;
 mod walk;

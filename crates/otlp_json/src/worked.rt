@@ -7,8 +7,10 @@ ghost use Rattle.json.specs.Token as tokens;
 ghost use Rattle.model_message.specs.Wire.{varint, i64, len, i32};
 ghost use Rattle.otlp_json.specs.Bodies.{body_bytes};
 ghost use Rattle.otlp_json.specs.Leaves.{payload};
+ghost use Rattle.otlp_json.specs.Mended.{mended};
 ghost use Rattle.otlp_json.specs.Names.{each, member_named, nested, one};
 ghost use Rattle.otlp_json.specs.Numbers.{whole};
+ghost use Rattle.otlp_json.specs.Posted.{posted_bytes};
 ghost use Rattle.otlp_json.specs.declared.fault.JsonFault.TheVariants as faults;
 ghost use Rattle.otlp_json.specs.declared.names.Leaf.TheVariants as leaves;
 ghost use Rattle.otlp_json.specs.declared.names.Message.TheVariants as messages;
@@ -82,4 +84,36 @@ pub(crate) fn texts()
     ensures more { body_bytes (codes "{} 1") ≡ Err faults.Malformed }
     ensures nothing { body_bytes [] ≡ Err faults.Malformed }
     ensures no_text { body_bytes (255 ∷ []) ≡ Err faults.NotUtf8 }
+{}
+
+/// Texts with surrogates, as they are read. A pair is one character, and a backslash that is escaped
+/// begins no escape (RFC 8259, section 7).
+#[tactic(auto, unfolding(crate::specs::Mended::pieces, crate::specs::Mended::first_piece, crate::specs::Mended::unit_in, json::specs::Text::code_unit))]
+pub(crate) fn surrogates()
+    ensures cut { mended (codes "\"Ann\\ud83d\"") ≡ codes "\"Ann\\ufffd\"" }
+    ensures second { mended (codes "\\uDe00!") ≡ codes "\\ufffd!" }
+    ensures pair { mended (codes "\\ud83d\\ude00") ≡ codes "\\ud83d\\ude00" }
+    ensures capitals { mended (codes "\\uDBFF\\uDFFF") ≡ codes "\\uDBFF\\uDFFF" }
+    ensures twice { mended (codes "\\ud83d\\ud83d\\ude00") ≡ codes "\\ufffd\\ud83d\\ude00" }
+    ensures turned { mended (codes "\\ude00\\ud83d") ≡ codes "\\ufffd\\ufffd" }
+    ensures apart { mended (codes "\\ud83d \\ude00") ≡ codes "\\ufffd \\ufffd" }
+    ensures escaped { mended (codes "\\\\ud83d") ≡ codes "\\\\ud83d" }
+    ensures after_escaped { mended (codes "\\\\\\ud83d") ≡ codes "\\\\\\ufffd" }
+    ensures others { mended (codes "\\u00e9\\n\\ue000\\ud7ff") ≡ codes "\\u00e9\\n\\ue000\\ud7ff" }
+    ensures short { mended (codes "\\ud83\\") ≡ codes "\\ud83\\" }
+{}
+
+/// Whole texts that are no JSON, where a surrogate alone is U+FFFD: in UTF-8 ef bf bd. The first
+/// fault is still the first.
+#[tactic(auto, unfolding(crate::proofs::OnLiterals::texts_on_literals, crate::specs::Mended::pieces, crate::specs::Mended::first_piece, crate::specs::Mended::unit_in, json::specs::Text::code_unit))]
+pub(crate) fn posted_texts()
+    ensures alone { posted_bytes (codes "{\"resourceSpans\":[{\"schemaUrl\":\"\\ud83d\"}]}")
+        ≡ Ok (10 ∷ 5 ∷ 26 ∷ 3 ∷ 239 ∷ 191 ∷ 189 ∷ []) }
+    ensures url { posted_bytes (codes "{\"resourceSpans\":[{\"schemaUrl\":\"u\"}]}")
+        ≡ Ok (10 ∷ 3 ∷ 26 ∷ 1 ∷ 117 ∷ []) }
+    ensures before { posted_bytes (codes "{\"resourceSpans\":1,\"a\":\"\\ud83d\"}")
+        ≡ Err faults.WrongType }
+    ensures after { posted_bytes (codes "{\"a\":\"\\ud83d\",\"resourceSpans\":1}")
+        ≡ Err faults.WrongType }
+    ensures open { posted_bytes (codes "{\"a\":\"\\ud83d\"") ≡ Err faults.Malformed }
 {}

@@ -5,7 +5,7 @@ use Rattle.std.specs.Prelude.{Err, None, Vec}
 use Rattle.http_header.specs.HeaderMap.{get_all}
 use Rattle.model_deflate.specs.Bits.{Fault, too_long}
 use Rattle.model_deflate.specs.Gzip.{gunzip}
-use Rattle.otlp_json.specs.Bodies.{body_bytes}
+use Rattle.otlp_json.specs.Posted.{posted_bytes}
 use Rattle.otlp_json.specs.declared.fault.JsonFault.{JsonFault}
 use Rattle.otlp_serve.specs.Answers.{coding_of, field_values}
 use Rattle.otlp_serve.specs.Posts.{HttpPost}
@@ -48,7 +48,7 @@ of_text (Err fault) = Err (json fault)
 -- what is decoded is the content, or a text of JSON that means the content
 abbrev pub typed : Bool → Result (List ℕ) Fault → Result (List ℕ) ContentFault
 typed is_text (Err fault) = Err (coding fault)
-typed true (Ok text) = of_text (body_bytes text)
+typed true (Ok text) = of_text (posted_bytes text)
 typed false (Ok bytes) = Ok bytes
 
 -- The content of a request: what its body means. Of a text of JSON it is the bytes that mean the
@@ -84,5 +84,5 @@ IsPacked most post reasons.OutOfMemory = coding_in post ≡ Some codings.Gzip
 -- The same where a text of JSON isn't read.
 abbrev pub IsNoText : List ℕ → Undecoded → Type 0
 IsNoText text (reasons.Denied denial) =
-    (fault : JsonFault) × (body_bytes text ≡ Err fault) × (denial ≡ denials.BadBody)
+    (fault : JsonFault) × (posted_bytes text ≡ Err fault) × (denial ≡ denials.BadBody)
 IsNoText text reasons.OutOfMemory = Unit {0}

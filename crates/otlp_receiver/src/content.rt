@@ -4,7 +4,7 @@ ghost use Rattle.std.specs.Prelude.{◌≡◌, ◌+◌, ◌≤◌, [], Err, IfEr
 ghost use Rattle.std.specs.Prelude.{vec_capacity};
 ghost use Rattle.model_deflate.specs.Gzip.{gunzip};
 ghost use Rattle.gzip.specs.Reading.{fault_of, Means};
-ghost use Rattle.otlp_json.specs.Bodies.{body_bytes};
+ghost use Rattle.otlp_json.specs.Posted.{posted_bytes};
 ghost use Rattle.otlp_receiver.specs.Contents.{IsNoText, IsPacked, IsUndecoded, coding_in};
 ghost use Rattle.otlp_receiver.specs.Contents.{content_of, content_or, decoded, denial_by_coding};
 ghost use Rattle.otlp_receiver.specs.Posts.{post_of};
@@ -73,7 +73,7 @@ fn unpack_body(
 
 /// The bytes that a text of JSON means.
 fn read_text(alloc: Global, text: &[u8]) -> Result<Vec<u8>, Undecoded>
-    ensures content { IfOk result (λ content. body_bytes text.now ≡ Ok content.items) }
+    ensures content { IfOk result (λ content. posted_bytes text.now ≡ Ok content.items) }
     ensures none { IfErr result (IsNoText text.now) }
 {
     match read_body(alloc, text) {

@@ -5,7 +5,7 @@ ghost use Rattle.std.specs.Prelude.{◌≡◌, [], ◌∷◌, codes, false, true
 ghost use Rattle.model_deflate.specs.Bits.{not_gzip, too_long, truncated};
 ghost use Rattle.model_deflate.specs.Gzip.{gunzip};
 ghost use Rattle.otlp_receiver.specs.declared.reply.denial.Denial.TheVariants as denials;
-ghost use Rattle.otlp_json.specs.Bodies.{body_bytes};
+ghost use Rattle.otlp_json.specs.Posted.{posted_bytes};
 ghost use Rattle.otlp_json.specs.declared.fault.JsonFault.TheVariants as json_faults;
 ghost use Rattle.otlp_receiver.specs.Contents.{coding, content_of, denial_by_fault, is_json_post};
 ghost use Rattle.otlp_receiver.specs.Contents.{json, of_text, typed};
@@ -26,7 +26,7 @@ pub fn contents()
 /// Bodies of JSON. What a text means is in the worked examples of `otlp_json`.
 pub fn texts()
     ensures json { content_of 9 (of_type (codes "application/json") (codes "{}"))
-        ≡ of_text (body_bytes (codes "{}")) }
+        ≡ of_text (posted_bytes (codes "{}")) }
     ensures parameters { is_json_post (of_type (codes "Application/JSON; charset=utf-8") [])
         ≡ true }
     ensures longer { is_json_post (of_type (codes "application/jsonl") []) ≡ false }

@@ -107,18 +107,19 @@ fn encoding<A: Allocator + Copy>(
     Some(digits(rt, alloc, &body))
 }
 
-/// A text with identifiers, numbers in both forms, escapes, bytes and a number that is none.
+/// A text with identifiers, numbers in both forms, escapes, bytes, a number that is none and half a
+/// character, so that it is read once more.
 const JSON: &str = concat!(
     "{\"resourceSpans\":[{\"scopeSpans\":[{\"spans\":[{",
     "\"traceId\":\"5B8EFFF798038103D269B633813fc60c\",\"name\":\"a\\u00e9\\ud83d\\ude00\",",
     "\"kind\":2,\"endTimeUnixNano\":1.5e3,\"flags\":\"257\",",
     "\"attributes\":[{\"value\":{\"bytesValue\":\"-_8=\"}},{\"value\":{\"doubleValue\":\"NaN\"}}],",
-    "\"status\":{\"code\":2,\"message\":\"m\"},\"unknown\":{\"a\":[1]}}]}]}]}",
+    "\"status\":{\"code\":2,\"message\":\"\\ud83d\"},\"unknown\":{\"a\":[1]}}]}]}]}",
 );
 
 /// What it means.
 const JSON_BYTES: &str = concat!(
-    "0a4c124a1248",
+    "0a4e124c124a",
     "0a105b8efff798038103d269b633813fc60c",
     "2a0761c3a9f09f9880",
     "3002",
@@ -126,7 +127,7 @@ const JSON_BYTES: &str = concat!(
     "850101010000",
     "4a0612043a02fbff",
     "4a0b120921000000000000f87f",
-    "7a05180212016d",
+    "7a0718021203efbfbd",
 );
 
 fn json<A: Allocator + Copy>(rt: &impl Abort, alloc: Global, scarce: A) -> Option<String> {
@@ -281,7 +282,7 @@ const MADE: [(Making, u64, &str); 12] = [
     (Making::Body, 5, OF_REMOTE),
     // Of the encoding itself, the table of lengths and the buffer.
     (Making::Encoding, 10, TWO_RESOURCES),
-    (Making::Json, 3, JSON_BYTES),
+    (Making::Json, 7, JSON_BYTES),
     // Four tables of codes, that of the check, and the output.
     (
         Making::Gunzip,

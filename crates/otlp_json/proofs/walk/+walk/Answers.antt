@@ -7,10 +7,9 @@ use Rattle.json.specs.Json.{read_key, after_end_array}
 use Rattle.json.specs.Reads.{token_of}
 use Rattle.json.proofs.Grammar.{read_key-shorter}
 use Rattle.model_message.specs.Canon.{field_bytes, bytes_field}
-use Rattle.otlp_json.specs.Bodies.{object, members, member, value, nested, items, each}
+use Rattle.otlp_json.specs.Bodies.{object, member, value, nested, each}
 use Rattle.otlp_json.specs.Fronts.{next_token, if_skipped, after}
 use Rattle.otlp_json.specs.Leaves.{payload}
-use Rattle.otlp_json.specs.Names.{member_named}
 use Rattle.otlp_json.specs.Writing.{appended, Leaves}
 use Rattle.otlp_json.specs.declared.fault.JsonFault.{JsonFault}
 use Rattle.otlp_json.specs.declared.fault.JsonFault.TheVariants as faults

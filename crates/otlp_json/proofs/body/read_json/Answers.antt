@@ -1,6 +1,6 @@
 use Rattle.std.proofs.Common.{◌∙◌}
 use Rattle.otlp_json.proofs.Wholes.{no_text, text_bytes}
-use Rattle.otlp_json.proofs.body.read_body.Goals as goal
+use Rattle.otlp_json.proofs.body.read_json.Goals as goal
 
 pub returns-in_default : goal.returns-in_default
 returns-in_default g c = no_text c.args.text.now c.in_default.ensures.cases.0
