@@ -10,10 +10,11 @@ use std::io::{ErrorKind, LineWriter, Write};
 use std::mem;
 use std::os::unix::fs::OpenOptionsExt;
 use std::rt::Files;
+use timely_log::Log;
 
 /// Where the lines of names go.
 #[derive(Drop)]
-enum Lines<N: Write + Drop, L: Write + Drop> {
+enum Lines<N: Write + Drop, L: Log + Drop> {
     /// The file of `--names`.
     File(LostLines<LineWriter<N>>),
     /// What the program reports on.
@@ -22,16 +23,18 @@ enum Lines<N: Write + Drop, L: Write + Drop> {
 
 /// What the names of lost spans are written to: a file, or what the program reports on.
 #[derive(Drop)]
-pub(crate) struct LostNames<N: Write + Drop, L: Write + Drop> {
+pub(crate) struct LostNames<N: Write + Drop, L: Log + Drop> {
     lines: Lines<N, L>,
     // How many names it was given since they were synced last.
     given: u64,
     // How many names had failed by then, and how many failed since `take_unwritten`.
     failed: u64,
     unwritten: u64,
+    // How many of the others were for a log that nobody reads, since `take_unread`.
+    unread: u64,
 }
 
-impl<N: Write + Drop, L: Write + Drop> LostNames<N, L> {
+impl<N: Write + Drop, L: Log + Drop> LostNames<N, L> {
     /// One that was given none.
     fn new(lines: Lines<N, L>) -> LostNames<N, L> {
         LostNames {
@@ -39,13 +42,39 @@ impl<N: Write + Drop, L: Write + Drop> LostNames<N, L> {
             given: 0,
             failed: 0,
             unwritten: 0,
+            unread: 0,
         }
     }
 
     /// How many names could not be written since the last call, or were written to a file that could
-    /// not be synced.
+    /// not be synced, but for those that `take_unread` counts.
     pub(crate) fn take_unwritten(&mut self) -> u64 {
         mem::replace(&mut self.unwritten, 0)
+    }
+
+    /// How many names could not be written since the last call because nobody read the log. They are
+    /// to be given no second time: what sends doesn't wait for a reader.
+    pub(crate) fn take_unread(&mut self) -> u64 {
+        mem::replace(&mut self.unread, 0)
+    }
+
+    /// Whether it writes to a log that nobody reads.
+    fn is_unread(&self) -> bool {
+        match &self.lines {
+            Lines::File(_) => false,
+            Lines::Log(lines) => lines.writer().get_ref().is_unread(),
+        }
+    }
+
+    /// Counts names that could not be written. Answers whether they are done with all the same.
+    fn count_missed(&mut self, missed: u64) -> bool {
+        let is_unread = self.is_unread();
+        if is_unread {
+            self.unread = self.unread.saturating_add(missed);
+        } else {
+            self.unwritten = self.unwritten.saturating_add(missed);
+        }
+        is_unread
     }
 }
 
@@ -57,7 +86,7 @@ fn is_synced<N: Write + OpenFile + Drop>(lines: &LostLines<LineWriter<N>>) -> bo
     }
 }
 
-impl<N: Write + OpenFile + Drop, L: Write + Drop> LostSink for LostNames<N, L> {
+impl<N: Write + OpenFile + Drop, L: Log + Drop> LostSink for LostNames<N, L> {
     ghost use Rattle.std.specs.Prelude.{None};
 
     ghost named = { λ _. None };
@@ -71,7 +100,7 @@ impl<N: Write + OpenFile + Drop, L: Write + Drop> LostSink for LostNames<N, L> {
     }
 
     /// Writes out what is held back, and syncs the file, if it is one. (Where standard error goes to
-    /// a file, that isn't synced.)
+    /// a file, that isn't synced.) Names for a log that nobody reads are only counted.
     fn sync(&mut self) -> bool {
         if self.given == 0 {
             return true;
@@ -84,13 +113,10 @@ impl<N: Write + OpenFile + Drop, L: Write + Drop> LostSink for LostNames<N, L> {
             Lines::Log(lines) => (lines.finish(), lines.unwritten()),
         };
         let more = failed.saturating_sub(self.failed);
-        if !is_done {
-            let missed = if more > 0 { more } else { self.given };
-            self.unwritten = self.unwritten.saturating_add(missed);
-        }
+        let missed = if more > 0 { more } else { self.given };
         self.failed = failed;
         self.given = 0;
-        is_done
+        is_done || self.count_missed(missed)
     }
 }
 
@@ -121,7 +147,7 @@ pub(crate) fn lost_names<R, L>(
 ) -> Result<LostNames<R::File, L>, Failure>
 where
     R: Files,
-    L: Write + Drop,
+    L: Log + Drop,
 {
     let Some(name) = name else {
         return match LineWriter::new(alloc, log) {

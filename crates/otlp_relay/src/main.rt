@@ -34,9 +34,12 @@ use std::io::BufWriter;
 use std::marker::Brand;
 use std::process::ExitCode;
 use std::{env, io};
+use timely_log::{Log, SharedLog};
 
-/// The descriptor of standard input.
+/// The descriptors of standard input and of standard error.
 const INPUT: i32 = 0;
+
+const FAULTS: i32 = 2;
 
 fn main(rt: HostRuntime) -> io::Result<ExitCode> {
     let mut words = Vec::new(rt.alloc());
@@ -44,11 +47,12 @@ fn main(rt: HostRuntime) -> io::Result<ExitCode> {
         words.push(word)?;
     }
     let mut output = BufWriter::new(rt.alloc(), io::writer(&rt))?;
-    let mut faults = rt.stderr();
+    let log = SharedLog::new(rt, rt.alloc(), rt.stderr(), FAULTS)?;
+    let mut faults = log.try_clone()?;
     let outside = Outside {
         folders: Folders { rt },
         input: INPUT,
-        log: rt.stderr(),
+        log,
     };
     // `Brand` stands for the name of this one relay, which the types of its accounts have.
     let status = run_relay::<Brand, _, _, _, _>(

@@ -36,6 +36,10 @@ use std::rt::Files;
 use std::sync::{Arc, Mutex, Wait};
 use std::thread::{self, JoinHandle, Threads};
 use std::time::{Clock, Duration};
+use timely_log::{CountedLines, Log};
+
+/// The program's name, as its lines begin.
+const PROGRAM: &str = "otlp-relay";
 
 /// How long it is waited between two looks at the thread that sends, in milliseconds.
 const LOOK_MS: u64 = 10;
@@ -47,7 +51,7 @@ pub struct Outside<L> {
     pub folders: Folders,
     /// The descriptor of standard input, whose bytes, or whose end, stop the program.
     pub input: RawFd,
-    /// Where the thread that sends reports, and where the names of lost spans go.
+    /// Where both threads report, and where the names of lost spans go.
     pub log: L,
 }
 
@@ -78,7 +82,7 @@ where
     J: Naming + Send + Sync + 'static,
     R: Net<Listener = TcpListener, Stream = TcpStream> + Files<File = File> + Threads + Wait,
     R: RandomSource + Clock + Input + Copy + Send + Sync + 'static,
-    L: Write + Copy + Send + 'static,
+    L: Log + Drop + Send + 'static,
     W: Write,
     F: Write,
     requires { blank ≡ J.name }
@@ -109,7 +113,7 @@ where
     J: Naming + Send + Sync + 'static,
     R: Net<Listener = TcpListener, Stream = TcpStream> + Files<File = File> + Threads + Wait,
     R: RandomSource + Clock + Input + Copy + Send + Sync + 'static,
-    L: Write + Copy + Send + 'static,
+    L: Log + Drop + Send + 'static,
     W: Write,
     F: Write,
     requires { blank ≡ J.name }
@@ -151,7 +155,7 @@ where
         kept,
         log,
     };
-    run.serve_and_send(args, outgoing, peers, service, output, faults)
+    run.serve_and_send(args, outgoing, peers, service, output)
 }
 
 /// What hands on what is kept, what gives it up in the end, and what opens the spool again.
@@ -176,26 +180,25 @@ where
     J: Naming + Send + Sync + 'static,
     R: Net<Listener = TcpListener, Stream = TcpStream> + Files<File = File> + Threads + Wait,
     R: RandomSource + Clock + Input + Copy + Send + Sync + 'static,
-    L: Write + Copy + Send + 'static,
+    L: Log + Drop + Send + 'static,
 {
     /// Starts the thread that sends, and serves until the program is to stop. Then it ends the
     /// thread, names what is lost, and prints the balance.
-    fn serve_and_send<W, F>(
+    fn serve_and_send<W>(
         self,
         args: RelayArgs,
         outgoing: Outgoing<J>,
         peers: Peers<R, NoPieces>,
         mut service: Relay<SharedKeeper<J, R, SpoolFolder>, R>,
         output: &mut W,
-        faults: &mut F,
     ) -> Result<(), Failure>
     where
         W: Write,
-        F: Write,
     {
         let (rt, alloc) = (self.rt, self.alloc);
         let stop_ms = stop_ms_of(&args);
-        let mut names = lost_names(&rt, alloc, args.names.as_ref(), self.log)?;
+        let mut names = lost_names(&rt, alloc, args.names.as_ref(), self.log()?)?;
+        let mut lines = CountedLines::new(self.log()?, PROGRAM);
         let Ok(course) = Course::new(alloc) else {
             return Err(Failure::OutOfMemory);
         };
@@ -205,7 +208,7 @@ where
             mender,
         } = outgoing;
         let thread = self.start(args, sender, mender, &course)?;
-        let served = serve(rt, alloc, peers, &mut service, faults, stop_ms);
+        let served = serve(rt, alloc, peers, &mut service, &mut lines, stop_ms);
         let end_ms = match &served {
             Ok(end_ms) => *end_ms,
             Err(_) => 0,
@@ -222,9 +225,18 @@ where
         match report
             .unwritten_names
             .saturating_add(names.take_unwritten())
+            .saturating_add(names.take_unread())
         {
             0 => Ok(()),
             unwritten => Err(Failure::Unwritten(unwritten)),
+        }
+    }
+
+    /// Where it is reported, for a thread.
+    fn log(&self) -> Result<L, Failure> {
+        match self.log.try_clone() {
+            Ok(log) => Ok(log),
+            Err(_) => Err(Failure::OutOfMemory),
         }
     }
 
@@ -237,7 +249,8 @@ where
         course: &Course,
     ) -> Result<JoinHandle<()>, Failure> {
         let (rt, alloc) = (self.rt, self.alloc);
-        let names = lost_names(&rt, alloc, args.names.as_ref(), self.log)?;
+        let names = lost_names(&rt, alloc, args.names.as_ref(), self.log()?)?;
+        let told = Told::new(CountedLines::new(self.log()?, PROGRAM));
         let (Ok(kept), Ok(course)) = (Arc::try_clone(&self.kept), course.try_clone()) else {
             return Err(Failure::OutOfMemory);
         };
@@ -254,7 +267,7 @@ where
             sender,
             exporter: collector(rt, alloc, target, timeout_ms, refused_after),
             names,
-            told: Told::new(self.log),
+            told,
             mender,
             course,
             linger_ms,
@@ -263,6 +276,7 @@ where
             bytes: 0,
             refusals: 0,
             unwritten: 0,
+            unread: 0,
         };
         sending.start(&rt)
     }

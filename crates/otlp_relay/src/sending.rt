@@ -18,6 +18,7 @@ use std::random::RandomSource;
 use std::sync::Wait;
 use std::thread::{self, JoinHandle, Threads};
 use std::time::{Clock, Duration};
+use timely_log::{CountedLines, Log};
 
 /// How long a step of a wait is at most, in milliseconds: a stop is seen after one.
 const STEP_MS: u64 = 50;
@@ -33,13 +34,13 @@ const BETWEEN_NAMES_MS: u64 = 1_000;
 /// or what is kept has just come, it waits for `linger_ms` milliseconds at most, until `enough`
 /// bytes more are kept.
 #[derive(Drop)]
-pub(crate) struct Sending<J: Naming, R, E, N: Write + Drop, L: Write + Drop> {
+pub(crate) struct Sending<J: Naming, R, E, N: Write + Drop, L: Log + Drop> {
     pub(crate) rt: R,
     pub(crate) kept: Kept<J>,
     pub(crate) sender: RelaySender<J>,
     pub(crate) exporter: OutageExporter<E, R>,
     pub(crate) names: LostNames<N, L>,
-    pub(crate) told: Told<L>,
+    pub(crate) told: Told<CountedLines<L>>,
     pub(crate) mender: Mender,
     pub(crate) course: Course,
     pub(crate) linger_ms: u64,
@@ -52,6 +53,8 @@ pub(crate) struct Sending<J: Naming, R, E, N: Write + Drop, L: Write + Drop> {
     // many names are not written.
     pub(crate) refusals: u64,
     pub(crate) unwritten: u64,
+    // How many of these were for a log that nobody reads: they are given no second time.
+    pub(crate) unread: u64,
 }
 
 impl<J, R, E, N, L> Sending<J, R, E, N, L>
@@ -60,7 +63,7 @@ where
     R: Threads + Wait + Clock + RandomSource + Copy + Send + 'static,
     E: ReportsFailure + Send + Drop + 'static,
     N: Write + OpenFile + Send + Drop + 'static,
-    L: Write + Send + Drop + 'static,
+    L: Log + Send + Drop + 'static,
 {
     /// Starts the thread.
     pub(crate) fn start(mut self, rt: &R) -> Result<JoinHandle<()>, Failure> {
@@ -86,7 +89,7 @@ where
     R: Wait + Clock + RandomSource + Copy,
     E: ReportsFailure,
     N: Write + OpenFile + Drop,
-    L: Write + Drop,
+    L: Log + Drop,
 {
     /// Sends until the run is over, or no more posts are taken and nothing is left to send.
     fn run(&mut self) {
@@ -181,18 +184,20 @@ where
     }
 
     /// Notes how many names are not written, and reports it where there are more of them. With a
-    /// spool those that failed are given again.
+    /// spool those that failed are given again, but for those for a log that nobody reads.
     fn note_unwritten(&mut self) {
         let failed = self.names.take_unwritten();
+        let unread = self.names.take_unread();
         let is_spooled = self.mender.is_spooled();
+        self.unread = self.unread.saturating_add(unread);
         let unwritten = if is_spooled {
-            failed
+            self.unread.saturating_add(failed)
         } else {
-            self.unwritten.saturating_add(failed)
+            self.unwritten.saturating_add(failed).saturating_add(unread)
         };
-        if failed > 0 {
+        if failed > 0 || unread > 0 {
             let now = now_ms(&self.rt);
-            self.told.unwritten(is_spooled, now);
+            self.told.unwritten(is_spooled && failed > 0, now);
         }
         if unwritten != self.unwritten {
             self.unwritten = unwritten;

@@ -120,7 +120,8 @@ impl<L: Write> Told<L> {
         } else {
             writeln!(
                 self.log,
-                "otlp-relay: names of lost spans can't be written; see that the disk of --names has room"
+                "otlp-relay: names of lost spans can't be written; see that the disk of --names has room, and \
+                that standard error is read"
             )
         };
     }
