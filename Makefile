@@ -1,5 +1,5 @@
 .DEFAULT_GOAL := help
-.PHONY: help run tour quick ports test audit docs times install install-unproved release check format clean
+.PHONY: help run tour quick ports test audit docs times bench install install-unproved release check format clean
 
 PREFIX ?= $(HOME)/.local
 PORT ?= 4318
@@ -54,6 +54,9 @@ docs: ## Compare the documents with the sources, and write out/DEFINITIONS.md, o
 
 times: ## The gate, and what each crate took of the processors
 	tools/times $(MAKE) test
+
+bench: ## What services deliver and what an end of a span takes, by the built trace-bench; it wants an idle machine (5 minutes)
+	tools/bench
 
 install: ## Put the programs that make test left built into PREFIX/bin, or PROGRAMS="trace-view otlp-relay", proved first; PREFIX=~/.local is the default
 	tools/install '$(PREFIX)/bin' $(PROGRAMS)

@@ -2,6 +2,8 @@
 use anyhow::Result;
 use otlp_span::Kind;
 use std::alloc::Global;
+use std::thread;
+use std::time::{Clock, Duration};
 use thread_tracer::{ThreadSpan, ThreadTrace};
 
 /// Attributes that a span may have.
@@ -13,12 +15,16 @@ const ATTRIBUTES: [(&str, &str); 5] = [
     ("network.protocol.version", "1.1"),
 ];
 
-/// How many spans a thread ends before it looks whether its time is up.
+/// How many spans a thread ends before it looks whether its time is up, at full speed and at a pace.
 const BURST: u64 = 64;
+
+const PACED_BURST: u64 = 8;
 
 /// What a thread does.
 #[derive(Clone, Copy)]
-pub struct Load {
+pub struct Load<R> {
+    /// What it waits by.
+    pub rt: R,
     /// The memory.
     pub alloc: Global,
     /// How many attributes each span has, 5 at most.
@@ -27,6 +33,8 @@ pub struct Load {
     pub nanos: u64,
     /// Whether each end is timed.
     pub is_timed: bool,
+    /// How much time each span of this thread has, in nanoseconds. 0 is full speed.
+    pub pace: u64,
 }
 
 /// What threads came to.
@@ -86,20 +94,28 @@ fn time_ends<T: ThreadTrace>(trace: &mut T, attributes: usize, count: u64, ends:
     }
 }
 
-/// Starts and ends spans until the time is up.
-pub fn run_load<T: ThreadTrace>(trace: &mut T, load: Load) -> Ran {
+/// Starts and ends spans until the time is up, and waits after each burst where they have a pace.
+pub fn run_load<T: ThreadTrace, R: Clock>(trace: &mut T, load: &Load<R>) -> Ran {
     let mut ran = Ran::new(load.alloc);
+    let burst = if load.pace == 0 { BURST } else { PACED_BURST };
     let start = trace.now();
     for _burst in 0..u64::MAX {
         if load.is_timed {
-            time_ends(trace, load.attributes, BURST, &mut ran.ends);
+            time_ends(trace, load.attributes, burst, &mut ran.ends);
         } else {
-            end_spans(trace, load.attributes, BURST);
+            end_spans(trace, load.attributes, burst);
         }
-        ran.spans = ran.spans.saturating_add(BURST);
+        ran.spans = ran.spans.saturating_add(burst);
         ran.nanos = trace.now().saturating_sub(start);
         if ran.nanos >= load.nanos {
             break;
+        }
+        let early = ran
+            .spans
+            .saturating_mul(load.pace)
+            .saturating_sub(ran.nanos);
+        if early > 0 {
+            let _ = thread::sleep(&load.rt, Duration::from_nanos(early));
         }
     }
     ran

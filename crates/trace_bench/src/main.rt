@@ -1,15 +1,15 @@
 //! A benchmark: how many spans of a service are delivered in a second, and what spans, their bodies
 //! and exports take. It is called as
 //!
-//!     trace_bench plain|setup THREADS ATTRIBUTES MILLISECONDS IS_TIMED
+//!     trace_bench plain|setup THREADS ATTRIBUTES MILLISECONDS IS_TIMED [A_SECOND]
 //!
-//! is a service whose threads end spans as fast as they can, and that posts them to the collector
-//! that the environment names. `setup` is a `ServiceSetup`, whose log is the standard error; `plain`
-//! a batch service whose threads share a tracer and name nothing themselves, and each of whose
-//! batches goes over a new connection. It prints how many spans were delivered in a second, from the
-//! start of the service until it has stopped; what a span took its thread; what became of all; and,
-//! where IS_TIMED is 1, of their ends the middle one, the one that a thousandth took longer than,
-//! and the longest.
+//! is a service whose threads end spans as fast as they can, or so many in a second together, and
+//! that posts them to the collector that the environment names. `setup` is a `ServiceSetup`, whose
+//! log is the standard error; `plain` a batch service whose threads share a tracer and name nothing
+//! themselves, and each of whose batches goes over a new connection. It prints how many spans were
+//! delivered in a second, from the start of the service until it has stopped; what a span took its
+//! thread; what became of all; and, where IS_TIMED is 1, of their ends the middle one, the one that
+//! a thousandth took longer than, and the longest.
 //!
 //!     trace_bench exports ROUNDS
 //!
@@ -44,7 +44,6 @@ use exports::print_exports;
 use load::Load;
 use services::{print_came, run_plain, run_setup};
 use spans::print_spans;
-use std::alloc::Global;
 use std::env;
 use std::process::ExitCode;
 use std::time::Instant;
@@ -53,9 +52,9 @@ use std::time::Instant;
 #[derive(Clone, Copy)]
 enum Measure {
     /// A batch service of so many plain threads.
-    Plain(usize, Load),
+    Plain(usize, Load<HostRuntime>),
     /// A `ServiceSetup` of so many threads.
-    Setup(usize, Load),
+    Setup(usize, Load<HostRuntime>),
     /// Exports, in so many rounds.
     Exports(u32),
     /// Spans that are kept.
@@ -72,23 +71,26 @@ fn number(words: &[String], place: usize) -> Option<u64> {
 }
 
 /// How many threads a command line asks for, and what each does.
-fn load_of(alloc: Global, words: &[String]) -> Option<(usize, Load)> {
+fn load_of(rt: HostRuntime, words: &[String]) -> Option<(usize, Load<HostRuntime>)> {
     let threads = usize::try_from(number(words, 2)?).ok()?;
+    let all_threads = (threads as u64).saturating_mul(1_000_000_000);
     let load = Load {
-        alloc,
+        rt,
+        alloc: rt.alloc(),
         attributes: usize::try_from(number(words, 3)?).ok()?,
         nanos: number(words, 4)?.saturating_mul(1_000_000),
         is_timed: number(words, 5)? > 0,
+        pace: number(words, 6).map_or(0, |a_second| all_threads / a_second.max(1)),
     };
     Some((threads, load))
 }
 
 /// What a command line asks for, the first word of which is the program's name.
-fn measure_of(alloc: Global, words: &[String]) -> Option<Measure> {
+fn measure_of(rt: HostRuntime, words: &[String]) -> Option<Measure> {
     let Some(word) = words.get(1) else {
         return Some(Measure::Sizes);
     };
-    if let Some((threads, load)) = load_of(alloc, words) {
+    if let Some((threads, load)) = load_of(rt, words) {
         return match word.as_str() {
             "plain" => Some(Measure::Plain(threads, load)),
             "setup" => Some(Measure::Setup(threads, load)),
@@ -110,18 +112,18 @@ fn read_measure(rt: HostRuntime) -> Result<Option<Measure>> {
     for word in env::args(&rt)? {
         words.push(word)?;
     }
-    Ok(measure_of(rt.alloc(), &words))
+    Ok(measure_of(rt, &words))
 }
 
 fn main(rt: HostRuntime) -> Result<ExitCode> {
     let start = Instant::now(&rt)?;
     match read_measure(rt)? {
         Some(Measure::Plain(threads, load)) => {
-            let (ran, totals) = run_plain(rt, threads, load)?;
+            let (ran, totals) = run_plain(threads, load)?;
             print_came(rt, ran, totals, start)?
         }
         Some(Measure::Setup(threads, load)) => {
-            let (ran, totals) = run_setup(rt, rt.stderr(), threads, load)?;
+            let (ran, totals) = run_setup(rt.stderr(), threads, load)?;
             print_came(rt, ran, totals, start)?
         }
         Some(Measure::Exports(rounds)) => print_exports(rt, rounds)?,

@@ -23,19 +23,18 @@ use thread_tracer::{ThreadTrace, ThreadTracer};
 use trace_api::{SystemClock, Tracer};
 use traced_service::{ServiceSetup, TracedWork};
 
-impl TracedWork for Load {
+impl<R: Clock> TracedWork for Load<R> {
     type Output = Ran;
 
     fn work<T: ThreadTrace>(&self, _thread: usize, trace: &mut T) -> Ran {
-        run_load(trace, *self)
+        run_load(trace, self)
     }
 }
 
 /// Threads that share a tracer, and name nothing themselves.
 #[derive(Drop)]
 struct Plain<'t, R> {
-    rt: R,
-    load: Load,
+    load: Load<R>,
     tracer: &'t Tracer<'t, AlwaysOn>,
 }
 
@@ -45,27 +44,27 @@ impl<R: Clock + Copy> Work for Plain<'_, R> {
     fn work<P: ServicePass>(&self, thread: usize, pass: &mut P) -> Ran {
         let (rng, clock) = (
             StdRng::seed_from_u64(thread as u64),
-            SystemClock::new(self.rt),
+            SystemClock::new(self.load.rt),
         );
         let mut trace = ThreadTracer::new(self.tracer, self.load.alloc, rng, clock, pass);
-        run_load(&mut trace, self.load)
+        run_load(&mut trace, &self.load)
     }
 }
 
 /// Runs a batch service of plain threads, each of whose batches goes over a new connection: what its
 /// threads did, and what became of their spans.
-pub fn run_plain<R>(rt: R, threads: usize, load: Load) -> Result<(Ran, Totals)>
+pub fn run_plain<R>(threads: usize, load: Load<R>) -> Result<(Ran, Totals)>
 where
     R: Threads + Wait + RandomSource + Clock + Environment + AllocGlobal,
     R: Net<Listener = TcpListener, Stream = TcpStream>,
     R: Copy + Send + Sync + 'static,
 {
-    let alloc = load.alloc;
+    let (rt, alloc) = (load.rt, load.alloc);
     let exporter = new_exporter(rt)?;
     let provider = new_provider(alloc)?;
     let tracer = provider.tracer(Arc::new(alloc, Scope::named(alloc, "bench")?)?);
     let tracer = &tracer;
-    let work = Plain { rt, load, tracer };
+    let work = Plain { load, tracer };
     let names = NewestNames::new(alloc, 0)?;
     let config = BatchConfig::default();
     let Done { outputs, served } = serve(rt, alloc, exporter, names, config, threads, &work)?;
@@ -77,13 +76,14 @@ where
 }
 
 /// Runs a service as [`ServiceSetup`] makes it, with this log: the same.
-pub fn run_setup<R, L>(rt: R, log: L, threads: usize, load: Load) -> Result<(Ran, Totals)>
+pub fn run_setup<R, L>(log: L, threads: usize, load: Load<R>) -> Result<(Ran, Totals)>
 where
     R: Threads + Wait + RandomSource + Clock + Environment + AllocGlobal,
     R: Net<Listener = TcpListener, Stream = TcpStream>,
     R: Copy + Send + Sync + 'static,
     L: Write + Send + Drop + 'static,
 {
+    let rt = load.rt;
     let setup = ServiceSetup::from_environment(&rt, "bench")?;
     let done = setup.serve(rt, log, threads, &load)?;
     let mut all = Ran::new(load.alloc);
