@@ -53,6 +53,12 @@ def program_of(words, crate, arguments=""):
     return path
 
 
+def built(crate):
+    """The path of another program that the gate leaves built, if it is there."""
+    path = TOP / "crates" / crate / "out" / crate
+    return str(path) if os.access(path, os.X_OK) else None
+
+
 def limited(words, limit):
     """The words that start a program under a limit, such as ("RLIMIT_FSIZE", 9), if one is
     given."""

@@ -73,3 +73,15 @@ def bare_rows(program):
         is_right = f'"attributes":[{written}],"droppedAttributesCount":1,' in found
         yield "as they are written", [] if is_right else [f"{found!r} without {written!r}"]
         yield from again_rows(program, link)
+
+
+def cut_rows(program):
+    """Half a character, as JavaScript leaves it, is read as U+FFFD."""
+    with View(program) as view:
+        link = Link(view.port)
+        status, _, body = link.ask("POST", "/v1/traces", JSON, json_texts.CUT)
+        yield "half a character", [] if status == 200 else [f"{status}, {body!r}"]
+        found = link.ask("GET", f"/api/trace/{json_texts.TRACE}")[2].decode()
+        is_right = f'"attributes":[{json_texts.READ}],' in found
+        yield "half a character, as it is read", [] if is_right else [f"{found!r}"]
+        yield from again_rows(program, link)

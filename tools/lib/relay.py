@@ -17,6 +17,7 @@ from lib.view import LISTENING, Link, body_of, span
 from lib.wire import parts_of
 
 PATIENCE = 120  # seconds in which something comes that has to come: the machine may be slow
+SOON = 40  # the same of what comes at once, but for a machine that is slow
 LOOK = 0.01  # seconds between two looks
 CLIENTS = 8  # clients that post at once
 BALANCE = re.compile(
@@ -161,15 +162,18 @@ def post_of(number, spans=3, service="shop"):
 
 class Relay:
     """A run of the program with these words, which hands on to a port, and listens at one that was
-    free. It is stopped through its standard input."""
+    free. It is stopped through its standard input. Its standard error is read from the start, unless
+    something else is said, and else from `read` or its end on."""
 
-    def __init__(self, program, to, *words, limit=None, stdin=subprocess.PIPE, path=""):
+    def __init__(self, program, to, *words, limit=None, stdin=subprocess.PIPE, path="", is_read=True):
         words = [program, "--port", "0", "--to", f"http://{HOST}:{to}{path}", *map(str, words)]
         pipes = {"stdin": stdin, "stdout": subprocess.PIPE, "stderr": subprocess.PIPE}
         self.process = subprocess.Popen(limited(words, limit), **pipes)
         self.reported = b""
         self.listener = threading.Thread(target=self.listen, daemon=True)
-        self.listener.start()
+        self.is_read = False
+        if is_read:
+            self.read()
         self.port = int(first_line(self.process, LISTENING)[1])
 
     def __enter__(self):
@@ -183,6 +187,12 @@ class Relay:
             with contextlib.suppress(OSError):
                 self.process.stdin.close()
 
+    def read(self):
+        """Begins to read its standard error, unless that has begun."""
+        if not self.is_read:
+            self.is_read = True
+            self.listener.start()
+
     def listen(self):
         """Keeps what it says on standard error."""
         with contextlib.suppress(ValueError):
@@ -193,6 +203,7 @@ class Relay:
         """Ends it at once (kill -9)."""
         self.process.send_signal(signal.SIGKILL)
         self.process.wait()
+        self.read()
         self.listener.join(PATIENCE)
 
     def begin_stop(self, text=b""):
@@ -207,6 +218,7 @@ class Relay:
         """Its status once it has ended, and its balance: the bodies that were received, delivered,
         lost and left, and the spans."""
         status = self.process.wait(PATIENCE)
+        self.read()
         self.listener.join(PATIENCE)
         printed = self.process.stdout.read().decode()
         found = BALANCE.fullmatch(printed)
@@ -315,3 +327,43 @@ def can_connect(port):
     """Whether something listens at a port."""
     with socket.socket() as link:
         return link.connect_ex((HOST, port)) == 0
+
+
+def spans_of(bodies):
+    """The spans of bodies, by their names."""
+    return {name for body in bodies for name in names_in(body)}
+
+
+def is_soon(is_so, patience=SOON):
+    """Whether something is so in time."""
+    until = time.monotonic() + patience
+    while time.monotonic() < until:
+        if is_so():
+            return True
+        time.sleep(0.02)
+    return is_so()
+
+
+def missing_of(far, bodies, patience=SOON):
+    """How many spans of these bodies don't come to a collector in time."""
+    wanted = spans_of(bodies)
+    is_soon(lambda: wanted <= set(far.names()), patience)
+    return len(wanted - set(far.names()))
+
+
+def status_in(link, body, patience=SOON):
+    """The status of a post that is tried again for some seconds while it is answered 503."""
+    until = time.monotonic() + patience
+    while (status := link.post(body)) == 503 and time.monotonic() < until:
+        time.sleep(0.05)
+    return status
+
+
+def statuses_of(link, bodies, patience=SOON):
+    """The statuses of posts, up to the first one that isn't 200."""
+    found = []
+    for body in bodies:
+        found.append(status_in(link, body, patience))
+        if found[-1] != 200:
+            break
+    return found

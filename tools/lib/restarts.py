@@ -14,7 +14,7 @@ import time
 from lib.harness import FAULTS, said_of
 from lib.http import HOST
 from lib.processes import descendants, listener_of
-from lib.relay import CLIENTS, Clients, Far, names_in, wait_until
+from lib.relay import CLIENTS, Clients, Far, spans_of, wait_until
 from lib.tries import Background
 from lib.view import Link
 
@@ -83,11 +83,6 @@ class Restarts:
         pipes = {"stdin": subprocess.DEVNULL, "stdout": subprocess.DEVNULL}
         self.again = subprocess.Popen(self.command, **pipes)
         wait_until(lambda: stats_of(self.port), "it listens again")
-
-
-def spans_of(bodies):
-    """The spans of bodies, by their names."""
-    return {name for body in bodies for name in names_in(body)}
 
 
 def steps(relay, clients):

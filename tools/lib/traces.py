@@ -195,7 +195,11 @@ def query_of(pairs):
 def remark_of(shown, total, host):
     """What a list of so many of all traces says of that, if anything."""
     if not total:
-        return f"No trace is here yet. Post traces to http://{host}/v1/traces."
+        return (
+            f"No trace is here yet. Post traces to http://{host}/v1/traces. An SDK does, set so:"
+            f"OTEL_EXPORTER_OTLP_ENDPOINT=http://{host}\nOTEL_EXPORTER_OTLP_PROTOCOL=http/protobuf"
+            "\nOTEL_METRICS_EXPORTER=none\nOTEL_LOGS_EXPORTER=none"
+        )
     if not shown:
         return f"Nothing matches. Traces that are kept: {total:,}. Show all"
     return f"Showing {shown:,} of {total:,}" if shown < total else ""
