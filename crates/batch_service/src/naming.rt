@@ -9,20 +9,20 @@ use otlp_span::SpanData;
 use trace_api::{EndPass, Ended};
 
 /// How many spans are dropped on a [`NamingPass`] before it names those of all passes (profile).
-pub const NAMED_TOGETHER: u32 = 64;
+pub const NAMED_TOGETHER: u32 = 16;
 
 // No clause says the number itself.
-const _: () = prove!(NAMED_TOGETHER == 64);
+const _: () = prove!(NAMED_TOGETHER == 16);
 
 /// A pass whose thread gives the names of spans that aren't delivered to a sink of its own
-/// (profile). At each 64th of its ends with the answer `Dropped` it takes all names out of the
+/// (profile). At each 16th of its ends with the answer `Dropped` it takes all names out of the
 /// ledgers, whatever pass their spans ended on, and gives them to its sink.
 ///
 /// The worker of a service does the same between two turns. But it has a thread's share of the
 /// processors: where many more threads end spans than there are processors, that is too little for
 /// all that they drop, and names fill the memory. On these passes the threads that drop spans name
 /// them, so the ledgers stay short, however many threads there are. What it costs is a longer end
-/// at each 64th span that is dropped; spans that are queued cost nothing more. Names that are left
+/// at each 16th span that is dropped; spans that are queued cost nothing more. Names that are left
 /// at the end go to the worker's sink.
 #[derive(Drop)]
 pub struct NamingPass<'a, P, S> {
