@@ -23,6 +23,7 @@ impl<W> CountedLines<W> {
     /// Of a program with this name, all of whose lines were written.
     pub fn new(writer: W, program: &'static str) -> CountedLines<W>
         ensures writer { result.writer ≡ writer }
+        ensures program { result.program.now ≡ program.now }
         ensures none { result.unwritten ≡ 0 }
     {
         CountedLines {

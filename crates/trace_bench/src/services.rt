@@ -21,7 +21,7 @@ use std::thread::Threads;
 use std::time::{Clock, Instant};
 use thread_tracer::{ThreadTrace, ThreadTracer};
 use trace_api::{SystemClock, Tracer};
-use traced_service::{ServiceSetup, TracedWork};
+use traced_service::{TracedWork, serve_from_environment};
 
 impl<R: Clock> TracedWork for Load<R> {
     type Output = Ran;
@@ -75,7 +75,7 @@ where
     Ok((all, served.desk.totals()))
 }
 
-/// Runs a service as [`ServiceSetup`] makes it, with this log: the same.
+/// Runs a service by the environment, as [`serve_from_environment`], with this log: the same.
 pub fn run_setup<R, L>(log: L, threads: usize, load: Load<R>) -> Result<(Ran, Totals)>
 where
     R: Threads + Wait + RandomSource + Clock + Environment + AllocGlobal,
@@ -84,8 +84,7 @@ where
     L: Write + Send + Drop + 'static,
 {
     let rt = load.rt;
-    let setup = ServiceSetup::from_environment(&rt, "bench")?;
-    let done = setup.serve(rt, log, threads, &load)?;
+    let done = serve_from_environment(rt, log, "bench", threads, &load)?;
     let mut all = Ran::new(load.alloc);
     for thread in &done.threads {
         all.add(&thread.output)?;

@@ -1,3 +1,5 @@
 pub mod Setups
 pub mod Sums
+pub mod Ends
 pub mod Lines
+pub mod Names

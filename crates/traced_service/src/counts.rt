@@ -1,10 +1,15 @@
 //! What a traced service came to.
-ghost use Rattle.std.specs.Prelude.{◌≡◌};
+ghost use Rattle.std.specs.Prelude.{◌≡◌, if◌then◌else◌, length};
+ghost use Rattle.std.specs.Process.{exit_status};
+ghost use Rattle.batch_desk.specs.Views.{fate_counts_view};
+ghost use Rattle.drop_ledger.specs.Counts.{drop_counts_view};
+ghost use Rattle.traced_service.specs.Ends.{all_delivered, drops_of, is_delivered};
 ghost use Rattle.traced_service.specs.Sums.{Sums, left_out_after, not_started_after};
 
-use crate::log::{ServiceLog, WorkerNames};
+use crate::log::ServiceLog;
+use crate::names::ThreadNames;
 use crate::work::ThreadDone;
-use batch_desk::Totals;
+use batch_desk::{FateCounts, Totals};
 use batch_service::{Done, Served};
 use drop_ledger::DropCounts;
 use http_exporter::ReportsFailure;
@@ -40,12 +45,22 @@ fn refused_of<T>(threads: &[ThreadDone<T>]) -> Refused
 }
 
 /// How many spans were dropped, for whatever reason.
-fn all_drops(drops: DropCounts) -> u64 {
+fn all_drops(drops: DropCounts) -> u64
+    ensures { result ≡ drops_of (drop_counts_view drops) }
+{
     drops
         .queue_full
         .saturating_add(drops.encode_memory)
         .saturating_add(drops.too_large)
         .saturating_add(drops.abandoned)
+}
+
+/// Whether no batch ended otherwise than delivered.
+fn all_delivered(fates: FateCounts) -> bool
+    ensures { result ≡ all_delivered (fate_counts_view fates) }
+{
+    let by_reply = fates.partial == 0 && fates.refused == 0 && fates.bad_reply == 0;
+    by_reply && fates.given_up == 0 && fates.abandoned == 0
 }
 
 /// Writes a count after its name.
@@ -54,9 +69,10 @@ fn write_count<W: Write>(output: &mut W, name: &str, count: u64) -> io::Result<(
 }
 
 impl<T, E, L: Write + Drop> TracedDone<T, E, L> {
-    /// By what the service gave.
-    pub(crate) fn new<R: Drop>(
-        done: Done<ThreadDone<T>, E, WorkerNames<L, R>>,
+    /// By what the service gave, and its log.
+    pub(crate) fn new(
+        done: Done<ThreadDone<T>, E, ThreadNames>,
+        mut log: ServiceLog<L>,
     ) -> TracedDone<T, E, L>
         ensures threads { result.threads ≡ done.outputs }
         ensures desk { result.served.desk ≡ done.served.desk }
@@ -71,7 +87,7 @@ impl<T, E, L: Write + Drop> TracedDone<T, E, L> {
             sink,
             end,
         } = served;
-        let WorkerNames { log, rt: _ } = sink;
+        log.leave_out(sink.left_out());
         let refused = refused_of(&outputs);
         TracedDone {
             threads: outputs,
@@ -86,13 +102,18 @@ impl<T, E, L: Write + Drop> TracedDone<T, E, L> {
     }
 
     /// What became of the sampled spans that ended, and of their batches.
-    pub fn totals(&self) -> Totals {
+    pub fn totals(&self) -> Totals
+        ensures lost { result.lost ≡ self.now.served.desk.lost_count }
+        ensures left { result.left ≡ length self.now.served.desk.waiting }
+        ensures dropped { drop_counts_view result.dropped ≡ self.now.served.desk.dropped }
+        ensures fates { fate_counts_view result.fates ≡ self.now.served.desk.fates }
+    {
         self.served.desk.totals()
     }
 
     /// Writes a line for each count: of the spans that were not started and the calls that were
-    /// left out, where there are some, of spans and of batches by what became of them; and why the
-    /// last attempt failed, if one did.
+    /// left out, where there are some, of spans and of batches by what became of them; of names that
+    /// the log doesn't have, where there are some; and why the last attempt failed, if one did.
     ///
     /// # Errors
     ///
@@ -117,6 +138,9 @@ impl<T, E, L: Write + Drop> TracedDone<T, E, L> {
         write_count(output, "batches refused", fates.refused)?;
         write_count(output, "batches with a bad reply", fates.bad_reply)?;
         write_count(output, "batches given up", fates.given_up)?;
+        if self.served.sink.unwritten() > 0 {
+            write_count(output, "names not written", self.served.sink.unwritten())?;
+        }
         match self.served.exporter.last_failure() {
             Some(failure) => writeln!(output, "last failure: {failure}"),
             None => Ok(()),
@@ -124,22 +148,20 @@ impl<T, E, L: Write + Drop> TracedDone<T, E, L> {
     }
 
     /// Whether no span was dropped, lost or left, and each batch was delivered.
-    pub fn is_delivered(&self) -> bool {
+    pub fn is_delivered(&self) -> bool
+        ensures { result ≡ is_delivered self.now.served.desk }
+    {
         let totals = self.totals();
-        let fates = totals.fates;
-        let spans = all_drops(totals.dropped)
-            .saturating_add(totals.lost)
-            .saturating_add(totals.left);
-        let by_reply = fates.refused.saturating_add(fates.bad_reply);
-        let unsent = fates.given_up.saturating_add(fates.abandoned);
-        let failed = fates
-            .partial
-            .saturating_add(by_reply)
-            .saturating_add(unsent);
-        spans == 0 && failed == 0
+        all_drops(totals.dropped) == 0
+            && totals.lost == 0
+            && totals.left == 0
+            && all_delivered(totals.fates)
     }
-    /// The status of a program that did nothing else: whether all was delivered.
-    pub fn exit_code(&self) -> ExitCode {
+
+    /// The status of a program that did nothing else: 0 if all was delivered, and else 1.
+    pub fn exit_code(&self) -> ExitCode
+        ensures { exit_status result ≡ (if is_delivered self.now.served.desk then 0 else 1) }
+    {
         if self.is_delivered() {
             ExitCode::SUCCESS
         } else {

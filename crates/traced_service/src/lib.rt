@@ -4,8 +4,8 @@
 #![tactic(auto)]
 
 mod counts;
-mod deferred;
 mod log;
+mod names;
 mod setup;
 mod source;
 mod work;

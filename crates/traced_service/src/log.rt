@@ -1,25 +1,63 @@
-//! The log of a service: its worker and its threads write the names of spans to it.
-ghost use Rattle.std.specs.Prelude.{◌≡◌};
+//! The log of a service, to which a thread of its own writes the names of spans.
+ghost use Rattle.std.specs.Prelude.{◌≡◌, ◌+◌, IfErr};
+ghost use Rattle.batch_service.specs.Refusals.{IsOfSystem};
 ghost use Rattle.otlp_span.specs.Dropped.{entry_view};
 ghost use Rattle.drop_ledger.specs.Lines.{TakesLine};
+ghost use Rattle.drop_ledger.specs.ReasonCounts.{capped};
 ghost use Rattle.traced_service.specs.Lines.{line_of};
+ghost use Rattle.traced_service.specs.Names.{WritesNext};
 
-use crate::deferred::DeferredNames;
+use crate::names::RING_NAMES;
+use batch_service::StartFault;
 use drop_ledger::{NameLines, NameSink};
 use otlp_span::Entry;
+use rtrb::Consumer;
 use std::alloc::{AllocError, Global};
 use std::io::{LineWriter, Write};
-use std::sync::{Arc, Mutex, Wait};
+use std::sync::atomic::{AtomicBool, Ordering};
+use std::sync::{Arc, Wait};
+use std::thread::{self, JoinHandle, Threads};
+use std::time::{Clock, Duration};
+
+/// How long the log's thread waits between two looks, in milliseconds, where it found no name
+/// (profile).
+const LOOK_MS: u64 = 1;
+
+/// The same where it has found none for [`QUIET_LOOKS`].
+const PAUSE_MS: u64 = 5;
+
+/// After how many looks without a name it takes its time.
+const QUIET_LOOKS: u32 = 1_000;
 
 /// What names are written to, a line for each, in one write.
 pub(crate) type Lines<L> = NameLines<LineWriter<L>>;
 
-/// What the worker and the threads of a service share.
+/// The log of a service, which has a line for each span that isn't delivered, as by [`NameLines`],
+/// but for those whose names came faster than the log took them: these are counted.
 #[derive(Drop)]
-struct Shared<L: Write + Drop> {
-    lines: Mutex<Lines<L>>,
-    /// Names that the worker left to a thread that was writing.
-    deferred: Mutex<DeferredNames>,
+pub struct ServiceLog<L: Write + Drop> {
+    lines: Lines<L>,
+    rings: Vec<Consumer<Entry>>,
+    left_out: u64,
+}
+
+impl<L: Write + Drop> ServiceLog<L> {
+    /// How many names have no line: those that came where a thread had as many as it may have
+    /// waiting (4,096), and those that could not be written, as [`NameLines::unwritten`]. The count
+    /// stops at 2^64 - 1.
+    pub fn unwritten(&self) -> u64
+        ensures { result ≡ capped (self.now.lines.unwritten + self.now.left_out) }
+    {
+        self.lines.unwritten().saturating_add(self.left_out)
+    }
+
+    /// So many more names were left out.
+    pub(crate) fn leave_out(&mut self, names: u64)
+        ensures count { self.new.left_out ≡ capped (self.old.left_out + names) }
+        ensures lines { self.new.lines ≡ self.old.lines }
+    {
+        self.left_out = self.left_out.saturating_add(names);
+    }
 }
 
 /// Writes the line of a name, if no write has failed.
@@ -33,118 +71,112 @@ fn write_name<W: Write>(lines: &mut NameLines<W>, entry: Entry)
     }
 }
 
-impl<L: Write + Drop> Shared<L> {
-    /// Writes a name, once no other thread writes.
-    fn write<R: Wait>(&self, rt: &R, entry: Entry) {
-        write_name(&mut *self.lines.lock(rt), entry);
-        self.settle(rt);
-    }
-
-    /// Writes a name at once where no other thread writes. Else it is deferred, unless too many are.
-    fn write_or_defer<R: Wait>(&self, rt: &R, entry: Entry) {
-        if self.deferred.lock(rt).defer(entry) {
-            self.settle(rt);
-        } else {
-            self.write(rt, entry);
-        }
-    }
-
-    /// Writes the names that are deferred, unless another thread writes. That one comes here once it
-    /// has given the lock back, and so sees all that were deferred until then.
-    fn settle<R: Wait>(&self, rt: &R) {
-        for _ in 0..u64::MAX {
-            if self.deferred.lock(rt).is_empty() {
-                return;
-            }
-            let Some(mut lines) = self.lines.try_lock() else {
-                return;
-            };
-            if let Some(entry) = self.deferred.lock(rt).next() {
-                write_name(&mut *lines, entry);
-            }
-        }
-    }
+/// Takes the oldest name out of a ring, and writes its line, if no write has failed. Whether there
+/// was one.
+fn write_next<W: Write>(ring: &mut Consumer<Entry>, lines: &mut NameLines<W>) -> bool
+    ensures { WritesNext W.contents result ring.old ring.new lines.old lines.new }
+{
+    let Ok(entry) = ring.pop() else {
+        return false;
+    };
+    write_name(lines, entry);
+    true
 }
 
-/// The log of a service, which has a line for each span that isn't delivered, as by [`NameLines`].
-/// Its lock is its own: no thread has the queue's while it writes.
-#[derive(Drop)]
-pub struct ServiceLog<L: Write + Drop> {
-    shared: Arc<Shared<L>, Global>,
+/// Writes what a ring has, as many as it has room for at most. Whether it had one.
+fn write_some<W: Write>(ring: &mut Consumer<Entry>, lines: &mut NameLines<W>) -> bool {
+    let mut has_some = false;
+    for _ in 0..RING_NAMES {
+        if !write_next(ring, lines) {
+            break;
+        }
+        has_some = true;
+    }
+    has_some
 }
 
 impl<L: Write + Drop> ServiceLog<L> {
-    /// Writes to this writer.
-    pub(crate) fn new(alloc: Global, lines: Lines<L>) -> Result<ServiceLog<L>, AllocError> {
-        let deferred = Mutex::new(DeferredNames::new(alloc)?);
-        let lines = Mutex::new(lines);
-        let shared = Arc::new(alloc, Shared { lines, deferred })?;
-        Ok(ServiceLog { shared })
+    /// Writes what all rings have. Whether there was a name.
+    fn sweep(&mut self) -> bool {
+        let mut has_some = false;
+        for ring in &mut self.rings {
+            if write_some(ring, &mut self.lines) {
+                has_some = true;
+            }
+        }
+        has_some
     }
 
-    /// The same log, for another thread.
-    pub(crate) fn try_clone(&self) -> Result<ServiceLog<L>, AllocError> {
-        let shared = Arc::try_clone(&self.shared)?;
-        Ok(ServiceLog { shared })
-    }
-
-    /// How many names could not be written, as [`NameLines::unwritten`].
-    pub fn unwritten<R: Wait>(&self, rt: &R) -> u64 {
-        self.shared.lines.lock(rt).unwritten()
+    /// Writes names until it is stopped and has found none since.
+    fn run<R: Wait + Clock>(mut self, rt: &R, is_stopped: &AtomicBool) -> ServiceLog<L> {
+        let mut quiet = 0u32;
+        for _ in rt.forever() {
+            let is_last = is_stopped.load(Ordering::SeqCst);
+            if self.sweep() {
+                quiet = 0;
+                continue;
+            }
+            if is_last {
+                break;
+            }
+            let wait_ms = if quiet < QUIET_LOOKS {
+                LOOK_MS
+            } else {
+                PAUSE_MS
+            };
+            quiet = quiet.saturating_add(1);
+            thread::sleep(rt, Duration::from_millis(wait_ms));
+        }
+        self
     }
 }
 
-/// What the worker of a service gives names to. It doesn't wait for threads that write: that would
-/// take the time in which it sends.
+/// A flag that isn't set, for two threads.
+fn new_flag(alloc: Global) -> Result<(Arc<AtomicBool>, Arc<AtomicBool>), AllocError> {
+    let flag = Arc::new(alloc, AtomicBool::new(false))?;
+    let other = Arc::try_clone(&flag)?;
+    Ok((flag, other))
+}
+
+/// The thread that writes a service's log.
 #[derive(Drop)]
-pub(crate) struct WorkerNames<L: Write + Drop, R> {
-    pub(crate) log: ServiceLog<L>,
-    pub(crate) rt: R,
+pub(crate) struct LogThread<L: Write + Drop> {
+    is_stopped: Arc<AtomicBool>,
+    thread: JoinHandle<ServiceLog<L>>,
 }
 
-impl<L: Write + Drop, R: Wait> NameSink for WorkerNames<L, R> {
-    ghost use Rattle.std.specs.Prelude.{None};
-
-    ghost named = { λ _. None };
-
-    fn take_dropped(&mut self, entry: Entry) {
-        self.log.shared.write_or_defer(&self.rt, entry);
-    }
-
-    fn take_lost(&mut self, entry: Entry) {
-        self.log.shared.write_or_defer(&self.rt, entry);
-    }
-}
-
-/// What a thread of a service gives names to. It waits until it can write them: so threads that
-/// drop more spans than can be written are slower, and their names take no memory.
-#[derive(Drop)]
-pub(crate) struct ThreadNames<L: Write + Drop, R> {
-    log: ServiceLog<L>,
-    rt: R,
-}
-
-impl<L: Write + Drop, R> ThreadNames<L, R> {
-    /// Gives names to this log.
-    pub(crate) fn new(log: &ServiceLog<L>, rt: R) -> Result<ThreadNames<L, R>, AllocError>
+impl<L: Write + Send + Drop + 'static> LogThread<L> {
+    /// Starts the thread, which takes names out of these rings.
+    ///
+    /// # Errors
+    ///
+    /// `OutOfMemory` where memory was refused, and `NoThread` where no thread can be made.
+    pub(crate) fn start<R>(
+        rt: R,
+        alloc: Global,
+        lines: Lines<L>,
+        rings: Vec<Consumer<Entry>>,
+    ) -> Result<LogThread<L>, StartFault>
     where
-        R: Drop,
+        R: Threads + Wait + Clock + Copy + Send + 'static,
+        ensures { IfErr result IsOfSystem }
     {
-        let log = log.try_clone()?;
-        Ok(ThreadNames { log, rt })
-    }
-}
-
-impl<L: Write + Drop, R: Wait> NameSink for ThreadNames<L, R> {
-    ghost use Rattle.std.specs.Prelude.{None};
-
-    ghost named = { λ _. None };
-
-    fn take_dropped(&mut self, entry: Entry) {
-        self.log.shared.write(&self.rt, entry);
+        let (is_stopped, flag) = new_flag(alloc)?;
+        let log = ServiceLog {
+            lines,
+            rings,
+            left_out: 0,
+        };
+        match thread::spawn(&rt, move || log.run(&rt, &flag)) {
+            Ok(thread) => Ok(LogThread { is_stopped, thread }),
+            Err(_) => Err(StartFault::NoThread),
+        }
     }
 
-    fn take_lost(&mut self, entry: Entry) {
-        self.log.shared.write(&self.rt, entry);
+    /// Ends the thread, once it has written what all rings have.
+    pub(crate) fn stop<R: Threads>(self, rt: &R) -> ServiceLog<L> {
+        let LogThread { is_stopped, thread } = self;
+        is_stopped.store(true, Ordering::SeqCst);
+        thread.join(rt)
     }
 }

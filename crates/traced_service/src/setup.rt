@@ -16,7 +16,8 @@ ghost use Rattle.traced_service.specs.Sums.{Sums};
 ghost use Rattle.traced_service.specs.Setups.{IsOf, sampler_of, setup_of};
 
 use crate::counts::TracedDone;
-use crate::log::{ServiceLog, WorkerNames};
+use crate::log::{Lines, LogThread};
+use crate::names::Rings;
 use crate::source::SpanSource;
 use crate::work::{Traced, TracedWork};
 use batch_processor::BatchConfig;
@@ -38,7 +39,7 @@ use std::io::{LineWriter, Write};
 use std::net::{Net, TcpListener, TcpStream};
 use std::random::RandomSource;
 use std::sync::{Arc, Wait};
-use std::thread::Threads;
+use std::thread::{self, Threads};
 use std::time::Clock;
 
 /// What a traced service is started with: what its spans are made with, where they go, and how they
@@ -166,9 +167,11 @@ impl ServiceSetup {
     /// Each thread makes its spans with a provider and a scope of its own, copies of the service's;
     /// one for which memory is refused shares the service's.
     ///
-    /// Threads that drop spans write their lines, 64 at a time, and wait for each other then (see
-    /// [`NamingPass`](batch_service::NamingPass)); the worker writes the others between its turns.
-    /// So a log that takes no line for a while holds up these threads.
+    /// The lines are written by a thread of their own, to which threads that drop spans give the
+    /// names, 16 at a time (see [`NamingPass`](batch_service::NamingPass)), and the worker the
+    /// others. So the log holds up no end of a span. Each may have 4,096 names waiting: those that
+    /// come where it has as many are only counted ([`ServiceLog::unwritten`]). The stop waits until
+    /// all that wait are written.
     ///
     /// # Errors
     ///
@@ -208,17 +211,18 @@ impl ServiceSetup {
             return Err(fault);
         }
         let alloc = rt.alloc();
-        let log = open_log(alloc, log, &faults)?;
+        let lines = open_log(alloc, log, &faults)?;
         let seed = draw_seed(&rt)?;
         let exporter = HttpExporter::new(alloc, rt, target, timeout_ms);
         let exporter = KeptExporter::new(exporter.reading_after_a_stop());
         let exporter = CompressedExporter::new(alloc, exporter, coding);
         let shared = provider.shared()?;
         let tracer = shared.tracer(Arc::try_clone(&scope)?);
-        let names = WorkerNames {
-            log: log.try_clone()?,
-            rt,
-        };
+        let Rings {
+            worker,
+            names,
+            taken,
+        } = Rings::new(alloc, threads, is_crowded(&rt, threads))?;
         let traced = Traced {
             rt,
             alloc,
@@ -226,11 +230,23 @@ impl ServiceSetup {
             scope,
             tracer: &tracer,
             seed,
-            log,
+            names,
             work,
         };
-        let done = serve(rt, alloc, exporter, names, config, threads, &traced)?;
-        Ok(TracedDone::new(done))
+        let log = LogThread::start(rt, alloc, lines, taken)?;
+        // (nothing may end this before the thread of the log is stopped)
+        let done = serve(rt, alloc, exporter, worker, config, threads, &traced);
+        let mut log = log.stop(&rt);
+        log.leave_out(traced.names.left_out(&rt));
+        Ok(TracedDone::new(done?, log))
+    }
+}
+
+/// Whether there are more of these threads than processors. Where that can't be had, there aren't.
+fn is_crowded<R: Threads>(rt: &R, threads: usize) -> bool {
+    match thread::available_parallelism(rt) {
+        Ok(processors) => threads > processors.get(),
+        Err(_) => false,
     }
 }
 
@@ -239,7 +255,7 @@ impl ServiceSetup {
 /// # Errors
 ///
 /// `OutOfMemory` where memory was refused.
-fn open_log<L>(alloc: Global, log: L, told: &[SettingFault]) -> Result<ServiceLog<L>, StartFault>
+fn open_log<L>(alloc: Global, log: L, told: &[SettingFault]) -> Result<Lines<L>, StartFault>
 where
     L: Write + Drop,
     ensures { IfErr result (λ fault. fault ≡ faults.OutOfMemory) }
@@ -248,7 +264,7 @@ where
         return Err(StartFault::OutOfMemory);
     };
     report(&mut lines, told);
-    Ok(ServiceLog::new(alloc, NameLines::new(lines))?)
+    Ok(NameLines::new(lines))
 }
 
 /// Writes a line for each fault. A line that can't be written is left out.
@@ -293,8 +309,9 @@ where
     L: Write + Send + Drop + 'static,
     W: TracedWork + Sync,
     W::Output: Send + Drop,
-    ensures served { IfOk result (λ done. (config : Config) × EndsServed threads
-        (new_service (origin_of config threads) None None)
+    ensures served { IfOk result (λ done. (pairs : Pairs) × AreRead (R.gives rt) pairs
+        × (config : Config) × (config_view config.desk ≡ (settings_of pairs).desk)
+        × EndsServed threads (new_service (origin_of config threads) None None)
         done.served.desk None None done.served.end) }
     ensures threads { IfOk result (λ done. vec_len done.threads ≡ threads) }
     ensures refused { IfOk result (λ done. Sums done.threads.items done.refused) }

@@ -3,7 +3,7 @@ ghost use Rattle.std.specs.Prelude.{◌≡◌, IfOk};
 ghost use Rattle.std.specs.Arc.{arc_value};
 ghost use Rattle.otlp_span.specs.Parts.{scope_view};
 
-use crate::log::{ServiceLog, ThreadNames};
+use crate::names::NamesAside;
 use crate::source::{SpanSource, copy_scope};
 use batch_processor::SystemClock;
 use batch_service::{NamingPass, ServicePass, Work};
@@ -12,8 +12,7 @@ use otlp_ids::OutOfMemory;
 use otlp_span::{Scope, SpanData};
 use rand::rngs::StdRng;
 use rand_core::SeedableRng;
-use std::alloc::{AllocError, Global};
-use std::io::Write;
+use std::alloc::Global;
 use std::sync::{Arc, Wait};
 use std::time;
 use thread_tracer::{Refused, ThreadTrace, ThreadTracer};
@@ -39,7 +38,7 @@ pub struct ThreadDone<T> {
 
 /// The work of each thread, with what its spans are made with.
 #[derive(Drop)]
-pub(crate) struct Traced<'t, 'w, R, L: Write + Drop, W> {
+pub(crate) struct Traced<'t, 'w, R, W> {
     pub(crate) rt: R,
     pub(crate) alloc: Global,
     /// What each thread copies, so that no other counts in the same memory what its spans share.
@@ -49,14 +48,14 @@ pub(crate) struct Traced<'t, 'w, R, L: Write + Drop, W> {
     pub(crate) tracer: &'t Tracer<'t, NamedSampler>,
     /// What the threads' generators are seeded with, each with its number.
     pub(crate) seed: u64,
-    pub(crate) log: ServiceLog<L>,
+    /// What the threads give names to.
+    pub(crate) names: NamesAside,
     pub(crate) work: &'w W,
 }
 
-impl<R, L, W> Traced<'_, '_, R, L, W>
+impl<R, W> Traced<'_, '_, R, W>
 where
     R: time::Clock + Copy,
-    L: Write + Drop,
     W: TracedWork,
 {
     /// A provider and a scope for a thread alone, equal to the service's.
@@ -98,20 +97,22 @@ where
     }
 }
 
-impl<R, L, W> Work for Traced<'_, '_, R, L, W>
+impl<R, W> Work for Traced<'_, '_, R, W>
 where
     R: Wait + time::Clock + Copy,
-    L: Write + Drop,
     W: TracedWork,
 {
     type Output = ThreadDone<W::Output>;
 
-    /// Spans end on a pass that gives names to the log.
+    /// Spans end on a pass that names those that are dropped.
     fn work<P: ServicePass>(&self, thread: usize, pass: &mut P) -> ThreadDone<W::Output> {
-        match ThreadNames::new(&self.log, self.rt) {
-            Ok(names) => self.trace(thread, &mut NamingPass::new(pass, names)),
-            // The worker gives all of them then.
-            Err(AllocError) => self.trace(thread, pass),
-        }
+        let Some(names) = self.names.take(&self.rt, thread) else {
+            // The worker names all of them then.
+            return self.trace(thread, pass);
+        };
+        let mut pass = NamingPass::new(pass, names);
+        let done = self.trace(thread, &mut pass);
+        self.names.put_back(&self.rt, thread, pass.into_sink());
+        done
     }
 }

@@ -121,8 +121,56 @@ fn of_eight_threads_each_span_that_is_not_delivered_is_named_once(rt: HostRuntim
         .serve(rt, log, 8, &Flood(500))
         .expect(&rt, "a service");
     assert_named(&rt, alloc, &done, 4000);
-    assert_equal(&rt, done.served.sink.unwritten(&rt), 0);
+    assert_equal(&rt, done.served.sink.unwritten(), 0);
     assert_each_once(&rt, &mut *tickets.lock(&rt), 4000);
+}
+
+/// A thread that ends so many spans while the log can't be written.
+#[derive(Drop)]
+struct Unread<R> {
+    rt: R,
+    tickets: Arc<Mutex<Vec<u64>>>,
+    spans: u64,
+}
+
+impl<R: Wait> TracedWork for Unread<R> {
+    type Output = usize;
+
+    fn work<T: ThreadTrace>(&self, thread: usize, trace: &mut T) -> usize {
+        let held = self.tickets.lock(&self.rt);
+        let thread = Flood(self.spans).work(thread, trace);
+        drop(held);
+        thread
+    }
+}
+
+/// No span is delivered: each is named, or its name is counted.
+#[test]
+fn a_log_that_nobody_reads_holds_up_no_end(rt: HostRuntime) {
+    let alloc = rt.alloc();
+    let tickets = Arc::new(alloc, Mutex::new(Vec::new(alloc))).expect(&rt, "memory");
+    let log = Tickets {
+        rt,
+        tickets: Arc::try_clone(&tickets).expect(&rt, "memory"),
+    };
+    let work = Unread {
+        rt,
+        tickets: Arc::try_clone(&tickets).expect(&rt, "memory"),
+        spans: 20_000,
+    };
+    let setup = undelivered(&rt, alloc);
+    let done = setup.serve(rt, log, 1, &work).expect(&rt, "a service");
+    assert_named(&rt, alloc, &done, 20_000);
+    let unwritten = done.served.sink.unwritten();
+    assert_equal(&rt, unwritten > 0, true);
+    let mut tickets = tickets.lock(&rt);
+    tickets.sort().expect(&rt, "memory");
+    let mut next = 0u64;
+    for ticket in &*tickets {
+        assert_equal(&rt, next <= *ticket && *ticket < 20_000, true);
+        next = ticket.saturating_add(1);
+    }
+    assert_equal(&rt, unwritten.saturating_add(tickets.len() as u64), 20_000);
 }
 
 #[test]
