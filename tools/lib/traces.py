@@ -239,7 +239,7 @@ def form_of(pairs):
     """What the fields of the form have for a query of these pairs."""
     asked = dict(pairs)
     return {
-        "service": asked.get("service", ""), "name": asked.get("name", ""),
+        "q": asked.get("q", ""), "service": asked.get("service", ""), "name": asked.get("name", ""),
         "least": str(int(asked.get("least") or 0)), "errors": bool(asked.get("errors")),
     }
 

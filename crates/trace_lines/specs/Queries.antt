@@ -44,6 +44,8 @@ IsRightQuery query = AllByRecursion IsRightPair (pairs_of query)
 
 -- The filter is what these pairs ask for.
 pub record AsksFor {A : Type 0} (pairs : List (List ℕ × List ℕ)) (filter : Filter A) : Type 0 where
+  pub search_is : string_bytes filter.search ≡ value_in (codes "q") pairs
+  pub after_is : string_bytes filter.after ≡ value_in (codes "after") pairs
   pub service_is : string_bytes filter.service ≡ value_in (codes "service") pairs
   pub name_is : string_bytes filter.name ≡ value_in (codes "name") pairs
   pub least_is : filter.least_ms ≡ least_of (value_in (codes "least") pairs)

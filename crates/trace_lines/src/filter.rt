@@ -17,9 +17,14 @@ use std::sync::Arc;
 use thiserror::Error;
 use trace_store::{ViewSpan, service_of};
 
-/// Which traces are in the list: those that pass each test.
+/// Which traces are in the list: those that pass each test, and that the search finds.
 #[derive(Drop)]
 pub struct Filter<A: Allocator = Global> {
+    /// What is searched for, as `view_query::Query` reads it; anything where it is empty.
+    pub search: String<A>,
+    /// The trace after which the list begins, by 32 hexadecimal digits; the list begins with the
+    /// newest trace where it is empty.
+    pub after: String<A>,
     /// A service that made a span of the trace; any where it is empty.
     pub service: String<A>,
     /// What the root's name begins with.
@@ -76,6 +81,8 @@ impl<A: Allocator + Copy> Filter<A> {
         ensures { spec.AsksFor [] result }
     {
         Filter {
+            search: String::new(alloc),
+            after: String::new(alloc),
             service: String::new(alloc),
             name: String::new(alloc),
             least_ms: 0,
@@ -83,9 +90,9 @@ impl<A: Allocator + Copy> Filter<A> {
         }
     }
 
-    /// Reads the query of the list, which a form writes (URL Standard, 5): `service`, `name`,
-    /// `least` in milliseconds, and `errors`, which is on where it has any value. The last one of
-    /// a name counts, and other names are ignored.
+    /// Reads the query of the list, which a form writes (URL Standard, 5): `q`, which is what is
+    /// searched for, `after`, `service`, `name`, `least` in milliseconds, and `errors`, which is on
+    /// where it has any value. The last one of a name counts, and other names are ignored.
     ///
     /// # Errors
     ///
@@ -110,6 +117,10 @@ impl<A: Allocator + Copy> Filter<A> {
 
     /// Sets what a pair of the query says.
     fn set(&mut self, alloc: A, name: &str, value: &str) -> Result<(), FilterFault>
+        ensures search { OnOk result (string_bytes self.new.search
+            ≡ spec.latest (codes "q") (string_bytes self.old.search) (name.now, value.now)) }
+        ensures after { OnOk result (string_bytes self.new.after
+            ≡ spec.latest (codes "after") (string_bytes self.old.after) (name.now, value.now)) }
         ensures service { OnOk result (string_bytes self.new.service
             ≡ spec.latest (codes "service") (string_bytes self.old.service) (name.now, value.now)) }
         ensures name { OnOk result (string_bytes self.new.name
@@ -125,6 +136,8 @@ impl<A: Allocator + Copy> Filter<A> {
             → ¬ (spec.IsRightPair (name.now, value.now))) }
     {
         match name {
+            "q" => self.search = copy(alloc, value)?,
+            "after" => self.after = copy(alloc, value)?,
             "service" => self.service = copy(alloc, value)?,
             "name" => self.name = copy(alloc, value)?,
             "least" => {

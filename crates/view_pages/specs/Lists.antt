@@ -1,6 +1,6 @@
 -- The list of traces.
-use Rattle.std.specs.Prelude.{ℕ, ◌/◌, ◌%◌, ◌==◌, nat_lt, if◌then◌else◌, List, length, codes}
-use Rattle.std.specs.Prelude.{string_bytes}
+use Rattle.std.specs.Prelude.{ℕ, ◌-◌, ◌/◌, ◌%◌, ◌==◌, nat_lt, Bool, if◌then◌else◌, List, length}
+use Rattle.std.specs.Prelude.{codes, string_bytes, slice_get, Option, Some, None}
 use Rattle.std.specs.Fmt.{take_chars}
 use Rattle.std.specs.Int.{w128, to_be_bytes}
 use Rattle.trace_lines.specs.Lists.{duration_of}
@@ -56,7 +56,10 @@ summary_html query s = name_html query s ▹ sizes_html s ▹ when_html s
 -- the boxes of the filter
 unfoldable pub texts_html : {A : Type 0} → Filter A → Html
 texts_html filter =
-    Markup (codes "<form><label>Service<input name='service' value='")
+    Markup (codes "<form><label class='search'>Search<input name='q' value='")
+    ▹ Text (string_bytes filter.search)
+    ▹ Markup (codes "' placeholder='service=shop duration&gt;100ms -root'></label>")
+    ▹ Markup (codes "<label>Service<input name='service' value='")
     ▹ Text (string_bytes filter.service)
     ▹ Markup (codes "'></label><label>Name begins with<input name='name' value='")
     ▹ Text (string_bytes filter.name)
@@ -123,6 +126,36 @@ shown_html host shown total =
     else (if shown == 0 then none_html total
     else (if nat_lt shown total then some_html shown total else Nothing))
 
+-- ---- the traces after those of the list
+
+-- hidden fields with what a filter asks for
+unfoldable pub hidden_html : {A : Type 0} → Filter A → Html
+hidden_html filter =
+    Markup (codes "<input type='hidden' name='q' value='") ▹ Text (string_bytes filter.search)
+    ▹ Markup (codes "'><input type='hidden' name='service' value='")
+    ▹ Text (string_bytes filter.service)
+    ▹ Markup (codes "'><input type='hidden' name='name' value='") ▹ Text (string_bytes filter.name)
+    ▹ Markup (codes "'><input type='hidden' name='least' value='") ▹ Number filter.least_ms
+    ▹ markup_if filter.errors_only (codes "'><input type='hidden' name='errors' value='1")
+
+-- a button that shows the traces after this one
+unfoldable pub after_html : {A : Type 0} → Filter A → Summary → Html
+after_html filter last =
+    Markup (codes "<form class='more'>") ▹ hidden_html filter
+    ▹ Markup (codes "'><input type='hidden' name='after' value='")
+    ▹ Digits (to_be_bytes w128 last.trace)
+    ▹ Markup (codes "'><button>Older traces</button></form>")
+
+-- one that shows those after the last of these, if there is a last one
+abbrev pub after_last : {A : Type 0} → Filter A → Option Summary → Html
+after_last filter None = Nothing
+after_last filter (Some last) = after_html filter last
+
+-- and where there are more
+unfoldable pub more_html : {A : Type 0} → Filter A → List Summary → Bool → Html
+more_html filter summaries has_more =
+    if has_more then after_last filter (slice_get summaries (length summaries - 1)) else Nothing
+
 -- ---- the page
 
 -- what is above the rows
@@ -142,11 +175,19 @@ unfoldable pub foot_html : List ℕ → Html
 foot_html version =
     Markup (codes "<footer>Dulhafrin ") ▹ Text version ▹ Markup (codes "</footer></html>")
 
--- the page of this version: a row for each of these, in this order
+-- the page of this version: a row for each of these, in this order, and a way to those after them
 unfoldable pub list_html : {A : Type 0}
-    → List ℕ → Filter A → List ℕ → List ℕ → List Summary → ℕ → Html
-list_html version filter query host summaries total =
+    → List ℕ → Filter A → List ℕ → List ℕ → List Summary → ℕ → Bool → Html
+list_html version filter query host summaries total has_more =
     list_head_html filter ▹ shown_html host (length summaries) total ▹ table_html query summaries
+    ▹ more_html filter summaries has_more ▹ foot_html version
+
+-- the page where what is searched for can't be read from a place on: what was typed is in the form
+unfoldable pub mistake_html : {A : Type 0} → List ℕ → Filter A → ℕ → List ℕ → Html
+mistake_html version filter at why =
+    list_head_html filter
+    ▹ Markup (codes "<p class='mistake' role='alert'>The search can't be read from byte ")
+    ▹ Number at ▹ Markup (codes " on: ") ▹ Text why ▹ Markup (codes "</p></header>")
     ▹ foot_html version
 
 -- the page that says why there is no other

@@ -17,6 +17,6 @@ mod times;
 mod value;
 mod worked;
 
-pub use list::{write_list_page, write_notice_page};
+pub use list::{write_list_page, write_mistake_page, write_notice_page};
 pub use pieces::TracePage;
 pub use style::STYLE;

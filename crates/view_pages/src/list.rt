@@ -2,8 +2,9 @@
 
 ghost use Rattle.std.specs.Prelude.{OnOk};
 ghost use Rattle.view_pages.specs.Html.{Appends, each};
-ghost use Rattle.view_pages.specs.Lists.{empty_html, foot_html, form_html, grouped, list_head_html};
-ghost use Rattle.view_pages.specs.Lists.{list_html, settings_html};
+ghost use Rattle.view_pages.specs.Lists.{after_html, empty_html, foot_html, form_html, grouped};
+ghost use Rattle.view_pages.specs.Lists.{hidden_html, list_head_html, list_html, mistake_html};
+ghost use Rattle.view_pages.specs.Lists.{more_html, settings_html};
 ghost use Rattle.view_pages.specs.Lists.{millions, name_html, none_html, notice_html, root_html};
 ghost use Rattle.view_pages.specs.Lists.{short_html, shown_html, sizes_html, some_html};
 ghost use Rattle.view_pages.specs.Lists.{summary_html, table_html, texts_html, thousands};
@@ -112,7 +113,16 @@ fn push_summaries<A: Allocator + Copy>(
 fn push_texts<A: Allocator>(out: &mut String<A>, filter: &Filter<A>) -> Result<(), OutOfMemory>
     ensures { OnOk result (Appends out.old out.new (texts_html filter.now)) }
 {
-    push_markup(out, "<form><label>Service<input name='service' value='")?;
+    push_markup(
+        out,
+        "<form><label class='search'>Search<input name='q' value='",
+    )?;
+    push_text(out, &filter.search)?;
+    push_markup(
+        out,
+        "' placeholder='service=shop duration&gt;100ms -root'></label>",
+    )?;
+    push_markup(out, "<label>Service<input name='service' value='")?;
     push_text(out, &filter.service)?;
     push_markup(
         out,
@@ -237,6 +247,60 @@ fn push_shown<A: Allocator>(
     }
 }
 
+/// Appends the hidden fields of a form that asks for what a filter asks for.
+fn push_hidden<A: Allocator>(out: &mut String<A>, filter: &Filter<A>) -> Result<(), OutOfMemory>
+    ensures { OnOk result (Appends out.old out.new (hidden_html filter.now)) }
+{
+    push_markup(out, "<input type='hidden' name='q' value='")?;
+    push_text(out, &filter.search)?;
+    push_markup(out, "'><input type='hidden' name='service' value='")?;
+    push_text(out, &filter.service)?;
+    push_markup(out, "'><input type='hidden' name='name' value='")?;
+    push_text(out, &filter.name)?;
+    push_markup(out, "'><input type='hidden' name='least' value='")?;
+    push_number(out, filter.least_ms)?;
+    push_if(
+        out,
+        filter.errors_only,
+        "'><input type='hidden' name='errors' value='1",
+    )
+}
+
+/// Appends a button that shows the traces after this one.
+fn push_after_trace<A: Allocator + Copy>(
+    out: &mut String<A>,
+    filter: &Filter<A>,
+    last: &Summary,
+) -> Result<(), OutOfMemory>
+    ensures { OnOk result (Appends out.old out.new (after_html filter.now last.now)) }
+{
+    push_markup(out, "<form class='more'>")?;
+    push_hidden(out, filter)?;
+    push_markup(out, "'><input type='hidden' name='after' value='")?;
+    push_digits(out, &last.trace.to_be_bytes())?;
+    push_markup(out, "'><button>Older traces</button></form>")
+}
+
+/// Appends a button that shows the traces after the last of these, where there are more.
+#[tactic(auto, unfolding(crate::specs::Html::html_bytes, crate::specs::Lists::more_html))]
+fn push_more<A: Allocator + Copy>(
+    out: &mut String<A>,
+    filter: &Filter<A>,
+    summaries: &[Summary],
+    has_more: bool,
+) -> Result<(), OutOfMemory>
+    ensures { OnOk result
+        (Appends out.old out.new (more_html filter.now summaries.now has_more)) }
+{
+    if !has_more {
+        return Ok(());
+    }
+    match summaries.last() {
+        Some(last) => push_after_trace(out, filter, last),
+        None => Ok(()),
+    }
+}
+
 /// Appends what is above the rows.
 fn push_list_head<A: Allocator>(out: &mut String<A>, filter: &Filter<A>) -> Result<(), OutOfMemory>
     ensures { OnOk result (Appends out.old out.new (list_head_html filter.now)) }
@@ -281,8 +345,9 @@ fn push_foot<A: Allocator>(out: &mut String<A>) -> Result<(), OutOfMemory>
 /// says how many traces are kept, in the list or not: where that are more than there are rows, the
 /// page says so. `host` is the host with its port, as a `Host` field has it (RFC 9110, 7.2); where
 /// no trace is kept, the page says that traces are posted to `http://HOST/v1/traces`, or to the
-/// path alone where `host` is empty, and by which settings an SDK does that. Its foot says which
-/// version of the kit made it.
+/// path alone where `host` is empty, and by which settings an SDK does that. Where there are more
+/// traces that the filter takes (`has_more`), a button shows those after the last row. Its foot says
+/// which version of the kit made it.
 ///
 /// # Errors
 ///
@@ -294,14 +359,43 @@ pub fn write_list_page<A: Allocator + Copy>(
     host: &str,
     summaries: &[Summary],
     total: u64,
+    has_more: bool,
 ) -> Result<(), OutOfMemory>
     ensures { OnOk result
         (Appends out.old out.new
-        (list_html VERSION.now filter.now query.now host.now summaries.now total)) }
+        (list_html VERSION.now filter.now query.now host.now summaries.now total has_more)) }
 {
     push_list_head(out, filter)?;
     push_shown(out, host, summaries.len() as u64, total)?;
     push_table(out, query, summaries)?;
+    push_more(out, filter, summaries, has_more)?;
+    push_foot(out)
+}
+
+/// Appends the list's page where what is searched for can't be read: the form has it as it was
+/// typed, and a sentence below says from which byte on, counted from 0, and why.
+///
+/// # Errors
+///
+/// `OutOfMemory` where the page could not be stored. It may then have been appended in part.
+pub fn write_mistake_page<A: Allocator>(
+    out: &mut String<A>,
+    filter: &Filter<A>,
+    at: u64,
+    why: &str,
+) -> Result<(), OutOfMemory>
+    ensures { OnOk result (Appends out.old out.new
+        (mistake_html VERSION.now filter.now at why.now)) }
+{
+    push_list_head(out, filter)?;
+    push_markup(
+        out,
+        "<p class='mistake' role='alert'>The search can't be read from byte ",
+    )?;
+    push_number(out, at)?;
+    push_markup(out, " on: ")?;
+    push_text(out, why)?;
+    push_markup(out, "</p></header>")?;
     push_foot(out)
 }
 

@@ -89,6 +89,7 @@ dt, dd small { color: var(--soft); } dd { margin: 0; white-space: pre-wrap; }
 .panel p { margin: 0.2rem 0; color: var(--soft); } ul { margin: 0; padding-left: 1.1rem; }
 dl dl { border-left: 1px solid var(--line); padding-left: 0.6rem; }
 form { display: flex; flex-wrap: wrap; gap: 0.5rem 1rem; align-items: end; margin: 0.5rem 0; }
+form .search { flex: 1 1 22rem; } .more { margin: 0.5rem 1.25rem; } .mistake { color: var(--bad); }
 label { display: grid; gap: 0.1rem; color: var(--soft); font-size: 0.85rem; }
 input, button { font: inherit; color: var(--text); background: var(--back); padding: 0.25rem 0.5rem;
   border: 1px solid var(--soft); border-radius: 5px; }

@@ -6,6 +6,7 @@ use Rattle.std.specs.declared.sync.Arc.{Arc}
 use Rattle.std.specs.declared.alloc.Global.{Global}
 use Rattle.trace_lines.specs.Lists.{has_service}
 use Rattle.trace_lines.specs.declared.filter.Filter.{Filter}
+use Rattle.view_query.specs.Matching.{finds}
 use Rattle.view_service.specs.declared.site_filter.SiteFilter.{SiteFilter}
 use Rattle.trace_store.specs.Digests.{TraceFacts}
 use Rattle.trace_store.specs.declared.span.ViewSpan.{ViewSpan}
@@ -22,8 +23,13 @@ takes_root filter facts (Some root) =
     ((facts.end_time_unix_nano - facts.start_time_unix_nano) / 1_000_000)
     && (not filter.errors_only || nat_lt 0 facts.error_count)
 
--- a trace passes each test of a filter
+-- the trace after which a list begins
+abbrev pub begins_after : SiteFilter → Option ℕ
+begins_after site = site.after
+
+-- a trace passes each test of a filter, and the search finds it: one of its spans fulfils all terms
 abbrev pub takes : SiteFilter → ℕ → TraceFacts (ViewSpan Global)
     → List (Arc (ViewSpan Global) Global) → Bool
 takes site trace facts spans =
     takes_root site.filter facts facts.root && has_service site.filter spans
+    && finds site.query spans

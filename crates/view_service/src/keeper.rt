@@ -69,7 +69,8 @@ pub trait TraceKeeper<S, D: Digest<S>> {
         ensures { gives_up self.old bytes self.new };
 
     /// The traces that a filter takes, of those the ones that got a span last, the newest first: so
-    /// many at most.
+    /// many at most. Where the filter begins after a trace, they are older than that; there is none
+    /// where that trace isn't kept.
     ///
     /// # Errors
     ///
@@ -159,9 +160,13 @@ where
     H: BuildHasher + Drop,
     F: TraceFilter<S, D>,
 {
+    let after = filter.after();
     let mut listed = Vec::new(alloc);
+    let mut begun = after.is_none();
     for (trace, kept) in store.iter() {
-        if listed.len() < count && filter.takes(*trace, kept.digest(), kept.spans()) {
+        if !begun {
+            begun = after == Some(*trace);
+        } else if listed.len() < count && filter.takes(*trace, kept.digest(), kept.spans()) {
             listed.push((*trace, kept.digest().clone()?))?;
         }
     }

@@ -27,7 +27,7 @@ pub use keeper::{Counts, Listed, TraceKeeper};
 pub use metrics::{Answered, write_metrics};
 pub use otlp_receiver::reply::{Denial, Format, Hosts, Strays, Tallies};
 pub use page::SitePage;
-pub use pages::{Asked, ListForm, Pages, TraceForm};
+pub use pages::{Asked, Extent, ListForm, Pages, TraceForm};
 pub use route::{Route, route_of};
 pub use service::ViewService;
 pub use show::Shown;

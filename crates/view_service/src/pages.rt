@@ -37,6 +37,15 @@ pub struct Asked<'a> {
     pub host: &'a str,
 }
 
+/// How many traces there are beside those of a list.
+#[derive(Clone, Copy, Debug, PartialEq, Eq)]
+pub struct Extent {
+    /// How many traces are kept, in the list or not.
+    pub total: u64,
+    /// Whether the filter takes more traces, which are older than those of the list.
+    pub has_more: bool,
+}
+
 /// What writes the pages of a service, each to the end of a list of bytes, or in pieces.
 ///
 /// Where memory is refused, each answers `AllocError`.
@@ -61,7 +70,7 @@ pub trait Pages<S, D> {
         query: &str,
     ) -> Result<Option<Self::Filter>, AllocError>;
 
-    /// A list of traces, the newest first, which a filter took of this many kept traces.
+    /// A list of traces, the newest first, which a filter took.
     fn list(
         &self,
         out: &mut Vec<u8>,
@@ -69,7 +78,7 @@ pub trait Pages<S, D> {
         asked: &Asked<'_>,
         filter: &Self::Filter,
         traces: &[Listed<D>],
-        total: u64,
+        extent: Extent,
     ) -> Result<(), AllocError>;
 
     /// A trace, in a form.

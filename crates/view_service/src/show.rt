@@ -11,7 +11,7 @@ ghost use Rattle.view_service.specs.Shows.{AnswersPage, FitsRoute, ShowsRoute, S
 ghost use Rattle.trace_store.specs.Keys.{trace_key};
 
 use crate::keeper::TraceKeeper;
-use crate::pages::{Asked, ListForm, Pages, TraceForm};
+use crate::pages::{Asked, Extent, ListForm, Pages, TraceForm};
 use crate::route::{Route, route_of};
 use bytes::Bytes;
 use http::{Request, StatusCode};
@@ -174,9 +174,14 @@ where
         let Some(filter) = self.pages.filter(out, form, asked.query)? else {
             return Ok((Shown::BadQuery, None));
         };
-        let traces = self.keeper.newest(self.alloc, LISTED, &filter)?;
-        let total = self.keeper.counts().traces;
-        self.pages.list(out, form, &asked, &filter, &traces, total)?;
+        let mut traces = self.keeper.newest(self.alloc, LISTED + 1, &filter)?;
+        let extent = Extent {
+            total: self.keeper.counts().traces,
+            has_more: traces.len() > LISTED,
+        };
+        traces.truncate(LISTED);
+        self.pages
+            .list(out, form, &asked, &filter, &traces, extent)?;
         Ok((Shown::Page, None))
     }
 

@@ -10,19 +10,24 @@ use crate::metrics::write_metrics;
 use crate::page::SitePage;
 use crate::script::SCRIPT;
 use crate::site_filter::SiteFilter;
-use crate::{Asked, Counts, ListForm, Listed, Pages, Tallies, TraceForm};
+use crate::{Asked, Counts, Extent, ListForm, Listed, Pages, Tallies, TraceForm};
+use otlp_ids::TraceId;
 use std::alloc::{AllocError, Global};
 use std::sync::Arc;
 use trace_lines::{Filter, FilterFault, TraceText};
-use trace_store::{TraceDigest, ViewSpan};
+use trace_store::{TraceDigest, ViewSpan, trace_key};
 use view_json::{TraceJson, write_stats, write_traces};
-use view_pages::{STYLE, TracePage, write_list_page, write_notice_page};
+use view_pages::{STYLE, TracePage, write_list_page, write_mistake_page, write_notice_page};
+use view_query::{Mistake, Query, SearchFault};
 
 /// The pages of `view_pages`, and the answers for programs of `view_json`.
 #[derive(Clone, Copy, Debug)]
 pub struct Site {
     alloc: Global,
 }
+
+/// What is said where the trace after which a list begins is none.
+const BAD_AFTER: &str = "`after` is no trace; write its identifier, 32 hexadecimal digits";
 
 impl Site {
     /// The site, whose pages take this memory.
@@ -69,18 +74,77 @@ fn put_fault(
     alloc: Global,
     out: &mut Vec<u8>,
     form: ListForm,
-    fault: FilterFault,
+    advice: &str,
 ) -> Result<(), AllocError> {
-    let advice = fault.to_string(alloc)?;
     match form {
         ListForm::Page => {
             let mut text = String::new(alloc);
-            let written = write_notice_page(&mut text, "", "This query can't be read", &advice);
+            let written = write_notice_page(&mut text, "", "This query can't be read", advice);
             put(out, &text, written)
         }
         ListForm::Json => {
             let text = format!(in alloc; "{{\"message\":\"{advice}\"}}")?;
             Ok(out.extend_from_slice(text.as_bytes())?)
+        }
+    }
+}
+
+/// Appends why a search can't be read, and from where on.
+fn put_mistake(
+    alloc: Global,
+    out: &mut Vec<u8>,
+    form: ListForm,
+    filter: &Filter,
+    mistake: Mistake,
+) -> Result<(), AllocError> {
+    let why = mistake.why.to_string(alloc)?;
+    match form {
+        ListForm::Page => {
+            let mut text = String::new(alloc);
+            let written = write_mistake_page(&mut text, filter, mistake.at as u64, &why);
+            put(out, &text, written)
+        }
+        ListForm::Json => {
+            let at = mistake.at;
+            let text = format!(in alloc; "{{\"message\":\"{why}\",\"at\":{at}}}")?;
+            Ok(out.extend_from_slice(text.as_bytes())?)
+        }
+    }
+}
+
+/// The trace that a text names by its identifier, in either case; none where it is empty.
+fn after_of(text: &str) -> Option<Option<u128>> {
+    if text.is_empty() {
+        return Some(None);
+    }
+    match TraceId::from_hex(text) {
+        Ok(trace) => Some(Some(trace_key(&trace.0))),
+        Err(_) => None,
+    }
+}
+
+/// The filter with what it searches for, or what is written where that can't be read.
+fn searching(
+    alloc: Global,
+    out: &mut Vec<u8>,
+    form: ListForm,
+    filter: Filter,
+) -> Result<Option<SiteFilter>, AllocError> {
+    let Some(after) = after_of(&filter.after) else {
+        put_fault(alloc, out, form, BAD_AFTER)?;
+        return Ok(None);
+    };
+    let read = Query::parse(alloc, &filter.search);
+    match read {
+        Ok(query) => Ok(Some(SiteFilter {
+            filter,
+            query,
+            after,
+        })),
+        Err(SearchFault::OutOfMemory) => Err(AllocError),
+        Err(SearchFault::Mistake(mistake)) => {
+            put_mistake(alloc, out, form, &filter, mistake)?;
+            Ok(None)
         }
     }
 }
@@ -101,10 +165,11 @@ impl Pages<Arc<ViewSpan>, TraceDigest> for Site {
         query: &str,
     ) -> Result<Option<SiteFilter>, AllocError> {
         match Filter::parse(self.alloc, query) {
-            Ok(filter) => Ok(Some(SiteFilter { filter })),
+            Ok(filter) => searching(self.alloc, out, form, filter),
             Err(FilterFault::OutOfMemory) => Err(AllocError),
             Err(fault) => {
-                put_fault(self.alloc, out, form, fault)?;
+                let advice = fault.to_string(self.alloc)?;
+                put_fault(self.alloc, out, form, &advice)?;
                 Ok(None)
             }
         }
@@ -117,15 +182,22 @@ impl Pages<Arc<ViewSpan>, TraceDigest> for Site {
         asked: &Asked<'_>,
         filter: &SiteFilter,
         traces: &[Listed<TraceDigest>],
-        total: u64,
+        extent: Extent,
     ) -> Result<(), AllocError> {
         let summaries = summaries_of(self.alloc, traces)?;
         match form {
             ListForm::Page => {
                 let (query, host) = (asked.query, asked.host);
                 let mut text = String::new(self.alloc);
-                let filter = &filter.filter;
-                let written = write_list_page(&mut text, filter, query, host, &summaries, total);
+                let written = write_list_page(
+                    &mut text,
+                    &filter.filter,
+                    query,
+                    host,
+                    &summaries,
+                    extent.total,
+                    extent.has_more,
+                );
                 put(out, &text, written)
             }
             ListForm::Json => {

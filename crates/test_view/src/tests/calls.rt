@@ -9,7 +9,8 @@ use test_support::FailingAllocator;
 use trace_lines::{Filter, Summary, TraceText, summary_of_digest};
 use trace_store::{Digest, Limits, SpanSize, TraceDigest, TraceStore, service_of, take_apart};
 use view_json::{Stats, TraceJson, write_stats, write_traces};
-use view_pages::{TracePage, write_list_page, write_notice_page};
+use view_pages::{TracePage, write_list_page, write_mistake_page, write_notice_page};
+use view_query::Query;
 
 /// A call, or several that go together.
 #[derive(Clone, Copy)]
@@ -18,7 +19,9 @@ enum Call {
     Parts,
     Store,
     Filter,
+    Search,
     List,
+    Mistake,
     Notice,
     Page,
     Lines,
@@ -28,7 +31,7 @@ enum Call {
 }
 
 /// Each call, with a part of what it gives.
-const ROWS: [(Call, &str); 11] = [
+const ROWS: [(Call, &str); 13] = [
     (
         Call::Text,
         concat!(
@@ -49,13 +52,26 @@ const ROWS: [(Call, &str); 11] = [
         ),
     ),
     (Call::Filter, "10: true true; 11: true false; "),
+    (Call::Search, "10: true; 11: false; "),
     (
         Call::List,
         concat!(
             "<p>Showing 1 of 2</p></header>",
             "<main><table><tr><th>Name<th>Service<th>Spans<th>Errors<th>Duration<th>Start (UTC)",
             "<tr><td><a href='/trace/00000000000000000000000000000abc?q=&lt;'>&lt;root&gt;</a>",
-            "<td>shop&lt;<td>3<td>1<td>1.50 s<td>2026-09-21 14:13:20</table></main><footer>Dulhafrin ",
+            "<td>shop&lt;<td>3<td>1<td>1.50 s<td>2026-09-21 14:13:20</table></main>",
+            "<form class='more'><input type='hidden' name='q' value=''>",
+            "<input type='hidden' name='service' value=''><input type='hidden' name='name' value=''>",
+            "<input type='hidden' name='least' value='0'>",
+            "<input type='hidden' name='after' value='00000000000000000000000000000abc'>",
+            "<button>Older traces</button></form><footer>Dulhafrin ",
+        ),
+    ),
+    (
+        Call::Mistake,
+        concat!(
+            "<p class='mistake' role='alert'>The search can't be read from byte 7 on: ",
+            "&lt;why&gt;</p></header><footer>Dulhafrin ",
         ),
     ),
     (
@@ -115,6 +131,9 @@ const HOSTILE: &str = "</p><script>alert(\"1\" & '2')</script>\u{202e}\r\0\u{1f9
 
 /// A query that the first trace passes.
 const QUERY: &str = "service=shop%3C&name=%3Cro&least=1500&errors=1";
+
+/// A search that finds the first trace.
+const SEARCH: &str = "root name:\"<RO\" service=shop< -unknown=1 duration>1s";
 
 /// What is counted.
 const STATS: Stats = Stats {
@@ -240,10 +259,37 @@ fn filtered<A: Allocator + Copy>(ample: A, alloc: A) -> Option<String<A>> {
     Some(text)
 }
 
+/// Which traces a search finds.
+fn searched<A: Allocator + Copy>(ample: A, alloc: A) -> Option<String<A>> {
+    let query = Query::parse(alloc, SEARCH).ok()?;
+    let mut text = String::new(ample);
+    for (trace, spans) in &parts(ample)? {
+        let found = query.finds(spans);
+        write!(text, "{trace}: {found}; ").ok()?;
+    }
+    Some(text)
+}
+
 /// A list of one trace of two.
 fn list<A: Allocator + Copy>(alloc: A) -> Option<String<A>> {
     let mut page = String::new(alloc);
-    write_list_page(&mut page, &Filter::new(alloc), "q=<", "", &[SUMMARY], 2).ok()?;
+    write_list_page(
+        &mut page,
+        &Filter::new(alloc),
+        "q=<",
+        "",
+        &[SUMMARY],
+        2,
+        true,
+    )
+    .ok()?;
+    Some(page)
+}
+
+/// The list where a search can't be read.
+fn mistake<A: Allocator + Copy>(alloc: A) -> Option<String<A>> {
+    let mut page = String::new(alloc);
+    write_mistake_page(&mut page, &Filter::new(alloc), 7, "<why>").ok()?;
     Some(page)
 }
 
@@ -261,7 +307,9 @@ fn made<A: Allocator + Copy>(ample: A, alloc: A, call: Call) -> Option<String<A>
         Call::Parts => parts_of_request(ample, alloc),
         Call::Store => stored(ample, alloc),
         Call::Filter => filtered(ample, alloc),
+        Call::Search => searched(ample, alloc),
         Call::List => list(alloc),
+        Call::Mistake => mistake(alloc),
         Call::Notice => notice(alloc),
         Call::Page => whole(alloc, Form::Page(TracePage::new(alloc, 10, spans(ample)?))),
         Call::Lines => whole(alloc, Form::Lines(TraceText::new(alloc, spans(ample)?))),

@@ -9,5 +9,9 @@ returns g c =
     after _ _ _ _ _ _ c.in_ok-push_markup.ensures
     (after _ _ _ _ _ _ (same _ _ _ _ Text c.deref.ensures c.in_ok-push_text.ensures)
     (after _ _ _ _ _ _ c.in_ok-push_markup-2.ensures
+    (after _ _ _ _ _ _ c.in_ok-push_markup-3.ensures
+    (after _ _ _ _ _ _ (same _ _ _ _ Text c.deref-2.ensures c.in_ok-push_text-2.ensures)
+    (after _ _ _ _ _ _ c.in_ok-push_markup-4.ensures
     (after _ _ _ _ _ _
-    (same _ _ _ _ Text c.deref-2.ensures c.in_ok-push_text-2.ensures) c.push_markup-3.ensures)))
+    (same _ _ _ _ Text c.deref-3.ensures c.in_ok-push_text-3.ensures)
+    c.push_markup-5.ensures))))))

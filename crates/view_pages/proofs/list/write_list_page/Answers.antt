@@ -7,4 +7,5 @@ unfolding list_html
 returns g c =
     after _ _ _ _ _ _ c.in_ok-push_list_head.ensures
     (after _ _ _ _ _ _ c.in_ok-push_shown.ensures
-    (after _ _ _ _ _ _ c.in_ok-push_table.ensures c.push_foot.ensures))
+    (after _ _ _ _ _ _ c.in_ok-push_table.ensures
+    (after _ _ _ _ _ _ c.in_ok-push_more.ensures c.push_foot.ensures)))

@@ -11,6 +11,12 @@ abbrev pub invariant-loop-pair : goal.invariant-loop-pair
 invariant-loop-pair g l = record {
   can_next : (goal.iterator-loop-pair g).can_next l.pair-iterator;
   is_finite : (goal.iterator-loop-pair g).is_finite l.pair-iterator;
+  search : fold (latest (codes "q")) (string_bytes l.filter.search)
+      (map decoded (pairs_left l.pair-iterator))
+      ≡ value_in (codes "q") (pairs_of l.query);
+  after : fold (latest (codes "after")) (string_bytes l.filter.after)
+      (map decoded (pairs_left l.pair-iterator))
+      ≡ value_in (codes "after") (pairs_of l.query);
   service : fold (latest (codes "service")) (string_bytes l.filter.service)
       (map decoded (pairs_left l.pair-iterator))
       ≡ value_in (codes "service") (pairs_of l.query);
