@@ -73,22 +73,49 @@ def unread_rows(program):
         ])
 
 
+def flip(file):
+    """Flips a bit in the middle of a file."""
+    data = bytearray(file.read_bytes())
+    data[len(data) // 2] ^= 1
+    file.write_bytes(data)
+
+
+def is_damage_said(relay, count=1):
+    """Whether it was said so often, or is soon, that bytes of the spool are damaged."""
+    said = b"of the spool are cut off or damaged"
+    return is_soon(lambda: relay.reported.count(said) >= count, 10)
+
+
 def damaged_rows(program):
-    """A bit of a file flips while it runs: it says how many bytes it can't read, and what the
-    other files have comes."""
+    """A bit of a file flips while it runs: it says how many bytes it can't read, and all bodies
+    come but for the one that has the bit."""
     with Filled(program) as it:
-        file, later = files_of(it.spool)[1:3]
-        data = bytearray(file.read_bytes())
-        data[len(data) // 2] ^= 1
-        file.write_bytes(data)
+        flip(files_of(it.spool)[1])
         it.begin()
         it.relay.wait_for_report(b"otlp-relay: the spool is back")
-        is_told = is_soon(lambda: b"of the spool are cut off or damaged" in it.relay.reported, 10)
-        others = it.bodies[: number_of(file)] + it.bodies[number_of(later) :]
-        found = {*it.statuses}, missing_of(it.far, others)
+        is_told = is_damage_said(it.relay)
+        found = {*it.statuses}, missing_of(it.far, it.bodies)
         yield from compared([
             ("a bit that flips: how much is damaged is said", is_told, True),
-            ("a bit that flips: what other files have comes", found, ({200}, 0)),
+            ("a bit that flips: all but its body come", found, ({200}, 1)),
+        ])
+
+
+def again_rows(program):
+    """Bits of two files flip one soon after the other: both are said, though that the spool
+    failed is said once."""
+    with Filled(program) as it:
+        first, second = files_of(it.spool)[1:3]
+        flip(first)
+        has_failed = lambda: b"otlp-relay: the spool failed" in it.relay.reported
+        it.far.reply_to = lambda turn, body: LATER if has_failed() else answer()
+        told = [is_damage_said(it.relay)]
+        flip(second)
+        it.begin()
+        told.append(is_damage_said(it.relay, 2))
+        found = told, missing_of(it.far, it.bodies)
+        yield from compared([
+            ("two bits that flip within a minute: both are said", found, ([True, True], 2)),
         ])
 
 
@@ -139,5 +166,5 @@ def part_rows(program):
 
 def spoiled_rows(program):
     """All of these."""
-    for part in (unread_rows, damaged_rows, foreign_rows, bound_rows, part_rows):
+    for part in (unread_rows, damaged_rows, again_rows, foreign_rows, bound_rows, part_rows):
         yield from guarded(part.__name__, part(program))

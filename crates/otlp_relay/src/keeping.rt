@@ -60,14 +60,15 @@ pub(crate) fn place_of(folders: Folders, args: &mut RelayArgs) -> Option<Place>
     })
 }
 
-/// Opens the spool at the start, and says what of it can't be read.
+/// Opens the spool at the start, and says what of it can't be read: the spool, if there is one, and
+/// how many bytes these are.
 pub(crate) fn open_first<F: Write>(
     alloc: Global,
     place: Option<&Place>,
     faults: &mut F,
-) -> Result<Option<Spool<SpoolFolder>>, Failure> {
+) -> Result<(Option<Spool<SpoolFolder>>, u64), Failure> {
     let Some(place) = place else {
-        return Ok(None);
+        return Ok((None, 0));
     };
     match place.open(alloc) {
         Ok(
@@ -77,7 +78,7 @@ pub(crate) fn open_first<F: Write>(
             },
         ) => {
             say_damaged(faults, damaged_bytes);
-            Ok(Some(spool))
+            Ok((Some(spool), damaged_bytes))
         }
         Err(SpoolError::Memory) => Err(Failure::OutOfMemory),
         Err(SpoolError::Failed | SpoolError::Full) => Err(Failure::Spool),
@@ -105,16 +106,20 @@ pub(crate) struct Mender {
     is_failed: bool,
     // The moment from which it may be opened again, in milliseconds.
     next_ms: u64,
+    // How many of its bytes can't be read, as was said last.
+    damaged_bytes: u64,
 }
 
 impl Mender {
-    /// Of a spool at this place, if there is one.
-    pub(crate) fn new(alloc: Global, place: Option<Place>) -> Mender {
+    /// Of a spool at this place, if there is one. It was said that so many of its bytes can't be
+    /// read.
+    pub(crate) fn new(alloc: Global, place: Option<Place>, damaged_bytes: u64) -> Mender {
         Mender {
             alloc,
             place,
             is_failed: false,
             next_ms: 0,
+            damaged_bytes,
         }
     }
 }
@@ -126,7 +131,8 @@ impl Mender {
     }
 
     /// Opens the spool again where it has failed, at most once a second, and reports that it has
-    /// failed, and that it is back.
+    /// failed, and that it is back. Where another number of its bytes can't be read than was said
+    /// last, it says so in any case.
     pub(crate) fn mend<J: Naming, R: Wait, L: Write>(
         &mut self,
         rt: &R,
@@ -153,9 +159,17 @@ impl Mender {
         let failed = sender.take_spool(rt, kept);
         drop(failed);
         if let Ok(opened) = place.open(self.alloc) {
-            sender.restore(rt, kept, opened.spool);
-            told.spool_back(opened.damaged_bytes);
+            let Opened {
+                spool,
+                damaged_bytes,
+            } = opened;
+            sender.restore(rt, kept, spool);
+            told.spool_back();
             self.is_failed = false;
+            if damaged_bytes != self.damaged_bytes {
+                self.damaged_bytes = damaged_bytes;
+                told.spool_damaged(damaged_bytes);
+            }
         }
     }
 }

@@ -134,6 +134,7 @@ where
         poster,
         sender,
         closer,
+        damaged_bytes,
     } = open_parts::<J, R, F>(&rt, alloc, blank, place.as_ref(), &args, faults)?;
     let service = service_of(rt, alloc, &kept, poster, place.is_some(), &args, address)?;
     let peers = match Peers::new(rt, alloc, listener, settings_of(&args)) {
@@ -143,7 +144,7 @@ where
     // Where it can't be waited for, as where it is a file, nothing but the system stops the program.
     let _ = peers.watch(input);
     print_address(alloc, address, output)?;
-    let mender = Mender::new(alloc, place);
+    let mender = Mender::new(alloc, place, damaged_bytes);
     let outgoing = Outgoing {
         sender,
         closer,
@@ -306,13 +307,14 @@ where
     }
 }
 
-/// The parts of a relay, what is kept under its lock.
+/// The parts of a relay, what is kept under its lock, and how many bytes of the spool can't be read.
 #[derive(Drop)]
 struct LockedParts<J: Naming> {
     kept: Kept<J>,
     poster: Poster<J>,
     sender: RelaySender<J>,
     closer: Closer<J>,
+    damaged_bytes: u64,
 }
 
 /// Opens the spool, if there is one: the parts of the relay then. The first bodies that wait have
@@ -331,7 +333,7 @@ where
     F: Write,
     requires { blank ≡ J.name }
 {
-    let spool = open_first(alloc, place, faults)?;
+    let (spool, damaged_bytes) = open_first(alloc, place, faults)?;
     let keeping = Keeping::new(alloc, config_of(args), spool);
     let sender = BodySender::new(alloc, sends_of(args));
     let RelayParts {
@@ -352,6 +354,7 @@ where
             poster,
             sender,
             closer,
+            damaged_bytes,
         }),
     }
 }

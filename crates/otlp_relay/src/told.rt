@@ -165,12 +165,16 @@ impl<L: Write> Told<L> {
         }
     }
 
-    /// The spool is back, but for so many bytes that can't be read.
-    pub(crate) fn spool_back(&mut self, damaged_bytes: u64) {
+    /// The spool is back. That is said where its failure was.
+    pub(crate) fn spool_back(&mut self) {
         if self.is_spool_told {
             let _ = writeln!(self.log, "otlp-relay: the spool is back");
-            say_damaged(&mut self.log, damaged_bytes);
         }
         self.is_spool_told = false;
+    }
+
+    /// So many bytes of the spool can't be read.
+    pub(crate) fn spool_damaged(&mut self, damaged_bytes: u64) {
+        say_damaged(&mut self.log, damaged_bytes);
     }
 }

@@ -1,18 +1,21 @@
 -- A spool that is in use, after a call of it.
 use Rattle.std.proofs.Common.{◌≡◌, refl, sym, ap, ◌∙◌, subst, ℕ, ◌+◌, ◌<◌, zero, suc, List}
 use Rattle.std.proofs.Common.{[], ◌∷◌, ◌++◌, length, drop, arith}
-use Rattle.std.proofs.Common.{◌≤◌, max}
-use Rattle.std.specs.Prelude.{Option, Some, None, IfSome, IsSome, flat_map, slice_get}
+use Rattle.std.proofs.Common.{◌≤◌, ◌≢◌, max, append_assoc}
+use Rattle.std.specs.Prelude.{Option, Some, None, IfSome, IsSome, Vec, flat_map, slice_get}
 use Rattle.std.specs.List.{enumerate_from}
-use Rattle.std.proofs.lemmas.List.{drop_all}
+use Rattle.std.specs.declared.alloc.Global.{Global}
+use Rattle.std.proofs.lemmas.List.{drop_all, length-map, map-append}
 use Rattle.spool.specs.Disks.{Disk, SpoolFile}
 use Rattle.spool.specs.Spools.{done_to, numbered_from, waiting, waiting_from, waiting_in}
-use Rattle.spool.specs.Settled.{IsSettled}
+use Rattle.spool.specs.Settled.{IsSettled, waiting_view}
+use Rattle.spool.specs.declared.records.WaitingBody.{WaitingBody}
+use Rattle.relay_queue.specs.Bodies.{bodies_view}
 use Rattle.spool.specs.declared.state.Spool.{Spool}
 use Rattle.spool.proofs.RiseLaws.{waiting-from}
 use Rattle.relay_store.specs.Fronts.{AreFirst, BeginWith, IsInUse, spool_waiting}
 use Rattle.relay_store.specs.Kept.{PutsAll}
-use Rattle.relay_store.proofs.Fronts.{front-more, front-none, front-noted}
+use Rattle.relay_store.proofs.Fronts.{enumerate-append, front-more, front-none, front-noted}
 
 module _ {D : Type 0} (files : D → Disk) (moment : D → ℕ) (left_at : D → ℕ → Disk → Type 0) where
   -- A spool in use is settled.
@@ -153,36 +156,111 @@ file-at [] index lt = absurd (omega arith)
 file-at (f ∷ disk) zero lt = (f, refl)
 file-at (f ∷ disk) (suc index) lt = file-at disk index (omega arith)
 
--- The bodies of the file with this index are those that wait in it.
-abbrev pub AreIn : ℕ → Disk → ℕ → ℕ → List (List ℕ) → Type 0
-AreIn from disk index number bodies =
+-- These are the bodies that wait in the file with this index.
+abbrev pub AreIn : ℕ → Disk → ℕ → List (ℕ × List ℕ) → Type 0
+AreIn from disk index found =
     (file : SpoolFile) → slice_get disk index ≡ Some file
-    → enumerate_from number bodies ≡ waiting_in (max (done_to disk) from) file
+    → found ≡ waiting_in (max (done_to disk) from) file
 
-module _ (from : ℕ) (disk same : Disk) (index number : ℕ) (bodies : List (List ℕ))
-    (e : same ≡ disk) (lt : index < length disk) (are : AreIn from same index number bodies)
+module _ (from : ℕ) (disk same : Disk) (index : ℕ) (found : List (ℕ × List ℕ))
+    (e : same ≡ disk) (lt : index < length disk) (are : AreIn from same index found)
     (rest : numbered_from from (waiting disk) ≡ rest_waits from disk index) where
-  bodies-at : rest_waits from disk index
-      ≡ enumerate_from number bodies ++ rest_waits from disk (index + 1)
+  bodies-at : rest_waits from disk index ≡ found ++ rest_waits from disk (index + 1)
   bodies-at =
       let here = file-at disk index lt in
-      let is : enumerate_from number bodies ≡ waiting_in (max (done_to disk) from) here.0 =
-      subst (λ (d : Disk). AreIn from d index number bodies) e are here.0 here.1 in
+      let is : found ≡ waiting_in (max (done_to disk) from) here.0 =
+      subst (λ (d : Disk). AreIn from d index found) e are here.0 here.1 in
       waits-at from disk index here.0 here.1
       ∙ ap (λ (l : List (ℕ × List ℕ)). l ++ rest_waits from disk (index + 1)) (sym is)
 
-  -- Where nothing waits before it, all that waits begins with them.
-  pub found-begins : BeginWith number bodies (numbered_from from (waiting disk))
-  found-begins = record {
-    others = rest_waits from disk (index + 1);
-    are = rest ∙ bodies-at;
+  -- Where nothing waits before it, all that waits begins with the first of them.
+  pub found-begins : (number : ℕ) (bodies : List (List ℕ)) → BeginWith number bodies found
+      → BeginWith number bodies (numbered_from from (waiting disk))
+  found-begins number bodies begin = record {
+    others = begin.others ++ rest_waits from disk (index + 1);
+    are =
+        rest
+        ∙ (bodies-at
+        ∙ (ap (λ (l : List (ℕ × List ℕ)). l ++ rest_waits from disk (index + 1)) begin.are
+        ∙ append_assoc (enumerate_from number bodies) begin.others
+        (rest_waits from disk (index + 1))));
   }
 
   -- Where there are none, nothing waits before the next file.
-  pub none-found : bodies ≡ []
+  pub none-found : found ≡ []
       → numbered_from from (waiting disk) ≡ rest_waits from disk (index + 1)
   none-found none =
       rest
       ∙ (bodies-at
-      ∙ ap
-      (λ (l : List (List ℕ)). enumerate_from number l ++ rest_waits from disk (index + 1)) none)
+      ∙ ap (λ (l : List (ℕ × List ℕ)). l ++ rest_waits from disk (index + 1)) none)
+
+-- ---- bodies without a gap between their numbers
+
+-- With one more body, whose number is the next one.
+pub run-more : (first : ℕ) (done : List WaitingBody) (bodies : List (Vec ℕ Global))
+    (body : WaitingBody) → waiting_view done ≡ enumerate_from first (bodies_view bodies)
+    → body.number ≡ first + length bodies
+    → waiting_view (done ++ body ∷ [])
+    ≡ enumerate_from first (bodies_view (bodies ++ body.bytes ∷ []))
+run-more first done bodies body so_far next =
+    let sized : length (bodies_view bodies) ≡ length bodies =
+    length-map bodies (λ (b : Vec ℕ Global). b.items) in
+    map-append (λ (b : WaitingBody). (b.number, b.bytes.items)) done (body ∷ [])
+    ∙ (ap (λ (l : List (ℕ × List ℕ)). l ++ (body.number, body.bytes.items) ∷ []) so_far
+    ∙ (ap
+    (λ (n : ℕ).
+    enumerate_from first (bodies_view bodies) ++ enumerate_from n (body.bytes.items ∷ []))
+    (omega (arith, sized, next))
+    ∙ (sym (enumerate-append first (bodies_view bodies) (body.bytes.items ∷ []))
+    ∙ ap (enumerate_from first)
+    (sym (map-append (λ (b : Vec ℕ Global). b.items) bodies (body.bytes ∷ []))))))
+
+-- All bodies begin with them.
+pub run-begins : (first : ℕ) (found done others : List WaitingBody) (bodies : List (Vec ℕ Global))
+    → found ≡ done ++ others → waiting_view done ≡ enumerate_from first (bodies_view bodies)
+    → BeginWith first (bodies_view bodies) (waiting_view found)
+run-begins first found done others bodies all so_far = record {
+  others = waiting_view others;
+  are =
+      ap waiting_view all
+      ∙ (map-append (λ (b : WaitingBody). (b.number, b.bytes.items)) done others
+      ∙ ap (λ (l : List (ℕ × List ℕ)). l ++ waiting_view others) so_far);
+}
+
+-- Where none of them is there, none was yielded.
+pub run-none : (first : ℕ) (done : List WaitingBody) (bodies : List (Vec ℕ Global))
+    → waiting_view done ≡ enumerate_from first (bodies_view bodies) → bodies ≡ [] → done ≡ []
+run-none first done bodies so_far none =
+    let sized : length (waiting_view done) ≡ length done =
+    length-map done (λ (b : WaitingBody). (b.number, b.bytes.items)) in
+    let empty : waiting_view done ≡ [] =
+    so_far ∙ ap (λ (l : List (Vec ℕ Global)). enumerate_from first (bodies_view l)) none in
+    nil-items done (sym sized ∙ ap length empty)
+
+-- One more was yielded.
+pub moves-one : {X : Type 0} (all done left more : List X) (x : X) → all ≡ done ++ left
+    → left ≡ x ∷ more → all ≡ (done ++ x ∷ []) ++ more
+moves-one all done left more x is next =
+    is ∙ (ap (λ l. done ++ l) next ∙ sym (append_assoc done (x ∷ []) more))
+
+-- Where the next one has another number, some are there: the first one has the first number.
+pub run-some : (first : ℕ) (found done left others : List WaitingBody)
+    (bodies : List (Vec ℕ Global))
+    (body : WaitingBody) → found ≡ done ++ left → left ≡ body ∷ others
+    → waiting_view done ≡ enumerate_from first (bodies_view bodies)
+    → ((b : WaitingBody) (more : List WaitingBody) → found ≡ b ∷ more → first ≡ b.number)
+    → (body.number ≡ first + length bodies → ⊥) → bodies ≢ []
+run-some first found done left others bodies body all next so_far begins not = λ none.
+    let nothing = run-none first done bodies so_far none in
+    let is : found ≡ body ∷ others =
+    all ∙ (ap (λ (l : List WaitingBody). l ++ left) nothing ∙ next) in
+    not (omega (arith, begins body others is, ap length none))
+
+-- Where all were yielded, some are there if there are some.
+pub run-all : (first : ℕ) (found done left : List WaitingBody) (bodies : List (Vec ℕ Global))
+    → found ≡ done ++ left → length left ≡ 0
+    → waiting_view done ≡ enumerate_from first (bodies_view bodies) → found ≢ [] → bodies ≢ []
+run-all first found done left bodies all over so_far some = λ none.
+    some (all
+    ∙ (ap (λ (l : List WaitingBody). l ++ left) (run-none first done bodies so_far none)
+    ∙ nil-items left over))

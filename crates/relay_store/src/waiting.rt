@@ -1,15 +1,25 @@
 //! What is done at a spool, where it is there.
 ghost use Rattle.std.specs.Prelude.{◌≡◌, ◌≢◌, ◌+◌, ◌^◌, ◌<◌, [], IfOk, IfSome, IsErrOf, IsNone};
-ghost use Rattle.std.specs.Prelude.{IsSome, OnErr, OnOk, false, length};
+ghost use Rattle.std.specs.Prelude.{IsSome, List, OnErr, OnOk, false, length, true, ◌∷◌, ◌↔◌};
+ghost use Rattle.spool.specs.declared.records.WaitingBody.{WaitingBody};
 ghost use Rattle.relay_queue.specs.Bodies.{bodies_view};
 ghost use Rattle.spool.specs.Spools.{numbered_from, waiting};
-ghost use Rattle.spool.specs.Settled.{IsSettled, device_of};
+ghost use Rattle.spool.specs.Settled.{IsSettled, device_of, waiting_view};
 ghost use Rattle.relay_store.specs.Fronts.{BeginWith, SpoolLeaves, spool_next, spool_waiting};
 ghost use Rattle.relay_store.specs.Kept.{AdmitsFirst, AreFull, LeftByNotes, LeftByPuts, PutsAll};
 
 use relay_queue::{AdmitFault, BodyDesk, KeepFault};
-use spool::{Device, Spool, SpoolError, WaitingBodies};
-use std::alloc::Global;
+use spool::{Device, Spool, SpoolError, WaitingBody};
+use std::alloc::{AllocError, Global};
+
+/// Bodies that wait, whose numbers have no gap between them.
+#[derive(Drop)]
+pub(crate) struct WaitingBodies {
+    /// The number of the first one. The others have those after it.
+    pub(crate) first: u64,
+    /// Their bytes.
+    pub(crate) bodies: Vec<Vec<u8>>,
+}
 
 /// The number that the next body of a spool gets, or 0 where there is no spool.
 pub(crate) fn next_of<D: Device>(spool: &Option<Spool<D>>) -> u64
@@ -75,7 +85,44 @@ pub(crate) fn note_into<D: Device>(alloc: Global, spool: &mut Option<Spool<D>>, 
     spool.note_delivered(alloc, number).is_err()
 }
 
-/// The bodies that wait, with a number from this on, of the oldest file that has any.
+/// The number of the first body, or 0 where there is none.
+fn first_number(found: &[WaitingBody]) -> u64
+    ensures { (body : WaitingBody) (others : List WaitingBody) → found.now ≡ body ∷ others
+        → result ≡ body.number }
+{
+    match found.first() {
+        Some(body) => body.number,
+        None => 0,
+    }
+}
+
+/// Whether this is the number after so many from a first one on.
+fn is_next(first: u64, count: u64, number: u64) -> bool
+    ensures { (result ≡ true) ↔ (number ≡ first + count) }
+{
+    u128::from(first) + u128::from(count) == u128::from(number)
+}
+
+/// The first ones of bodies that wait, up to a gap between their numbers.
+fn first_run(alloc: Global, found: Vec<WaitingBody>) -> Result<WaitingBodies, AllocError>
+    ensures begin { IfOk result (λ run. BeginWith run.first (bodies_view run.bodies.items)
+        (waiting_view found.items)) }
+    ensures some { IfOk result (λ run. found.items ≢ [] → run.bodies.items ≢ []) }
+{
+    let first = first_number(&found);
+    let mut bodies = Vec::new(alloc);
+    for body in found {
+        let WaitingBody { number, bytes } = body;
+        if !is_next(first, bodies.len() as u64, number) {
+            return Ok(WaitingBodies { first, bodies });
+        }
+        bodies.push(bytes)?;
+    }
+    Ok(WaitingBodies { first, bodies })
+}
+
+/// The first bodies that wait, with a number from this on, up to a gap between their numbers, of the
+/// oldest file that has any.
 ///
 /// # Errors
 ///
@@ -98,15 +145,16 @@ fn first_waiting<D: Device>(
 {
     for index in 0..spool.file_count() {
         let found = spool.bodies(alloc, index, from)?;
-        if found.bodies.len() > 0 {
-            return Ok(Some(found));
+        if found.len() > 0 {
+            let run = first_run(alloc, found)?;
+            return Ok(Some(run));
         }
     }
     Ok(None)
 }
 
-/// The bodies that wait, with a number from this on, of the oldest file of a spool that has any,
-/// where the spool is there.
+/// The first bodies that wait, with a number from this on, up to a gap between their numbers, of the
+/// oldest file of a spool that has any, where the spool is there.
 ///
 /// # Errors
 ///

@@ -4,22 +4,21 @@ use Rattle.std.proofs.Common.{◌+◌, ◌-◌}
 use Rattle.std.proofs.Common.{◌≤◌, max, List, [], ◌∷◌, ◌++◌, length, drop, map, arith}
 use Rattle.std.proofs.Common.{cond, true, false}
 use Rattle.std.proofs.Common.{append_assoc, length-append}
-use Rattle.std.specs.Prelude.{flat_map, nat_le}
+use Rattle.std.specs.Prelude.{flat_map, filter_map, nat_le, Option, Some}
 use Rattle.std.proofs.lemmas.Bool.{cond-true}
 use Rattle.std.proofs.lemmas.Bool.{cond-false, eqb-true, eq-eqb}
-use Rattle.std.proofs.lemmas.List.{drop-append-le, append-nil, map-append}
+use Rattle.std.proofs.lemmas.List.{append-nil, map-append, length-map}
 use Rattle.std.proofs.lemmas.List.Concat.{flat_map-append}
 use Rattle.std.proofs.lemmas.List.Elements.{filter-append, filter_map-append}
 use Rattle.std.proofs.lemmas.List.Sums.{sum_by-append}
-use Rattle.std.specs.List.{enumerate_from}
 use Rattle.spool.specs.Disks.{SpoolFile, Disk, grown, grow_last, disk_size}
-use Rattle.spool.specs.Records.{contents, rest, bodies, notes}
-use Rattle.spool.specs.Spools.{bodies_in, notes_in, is_whole, end_of, greatest, done_to}
+use Rattle.spool.specs.Records.{contents, rest, body_of, bodies, notes, numbered, span}
+use Rattle.spool.specs.Spools.{bodies_in, bodies_end, notes_in, is_whole, end_of, greatest, done_to}
 use Rattle.spool.specs.Spools.{next_number}
 use Rattle.spool.specs.Spools.{waiting_in, waiting_from, numbered_from, CanGrow}
-use Rattle.spool.proofs.RecordLaws.{read-on, nil-length}
-use Rattle.spool.proofs.ContentLaws.{enumerate-append}
-use Rattle.spool.proofs.ContentLaws.{length-enumerate, drop-numbered, numbered-twice}
+use Rattle.spool.proofs.RecordLaws.{read-on, nil-length, checked}
+use Rattle.spool.proofs.ContentLaws.{bodies-checked, numbered-append, numbered-all, numbered-twice}
+use Rattle.spool.proofs.ContentLaws.{span-whole}
 
 -- The greatest of two lists is that of one of them.
 pub greatest-append : (xs ys : List ℕ) → greatest (xs ++ ys) ≡ max (greatest xs) (greatest ys)
@@ -76,10 +75,12 @@ waiting-numbered : (n : ℕ) (disk : Disk)
 unfolding waiting_from waiting_in
 waiting-numbered n [] = refl
 waiting-numbered n (f ∷ disk) =
+    let bodies_are = numbered f.number (bodies_in f) in
+    let same : max n 0 ≡ n = omega arith in
     ap₂ (λ (l : List (ℕ × List ℕ)) (k : List (ℕ × List ℕ)). l ++ k)
-    (drop-numbered 0 n f.number (bodies_in f) (omega arith)) (waiting-numbered n disk)
-    ∙ sym (filter-append (λ b. nat_le n b.0)
-    (drop (0 - f.number) (enumerate_from f.number (bodies_in f))) (waiting_from 0 disk))
+    (ap (λ (m : ℕ). numbered_from m bodies_are) (sym same) ∙ sym (numbered-twice n 0 bodies_are))
+    (waiting-numbered n disk)
+    ∙ sym (filter-append (λ b. nat_le n b.0) (numbered_from 0 bodies_are) (waiting_from 0 disk))
 
 -- What waits from a number on, of what waits from another on.
 pub numbered-waiting : (n d : ℕ) (disk : Disk)
@@ -102,21 +103,36 @@ pub rest-whole : (file : SpoolFile) → rest file.bytes ≡ [] → is_whole file
 unfolding is_whole
 rest-whole file is = eq-eqb _ _ (ap length is)
 
+-- The bodies of a whole file, none of which is damaged.
+pub record WholeBodies (file : SpoolFile) : Type 0 where
+  pub bodies_are : List (List ℕ)
+  pub all : bodies_in file ≡ map Some bodies_are
+
+-- No record of a whole file is damaged.
+pub whole-bodies : (file : SpoolFile) → is_whole file ≡ true → WholeBodies file
+unfolding bodies_in
+whole-bodies file is =
+    let c = checked file.bytes (whole-rest file is) in
+    record {
+      bodies_are = filter_map body_of c.are;
+      all = ap bodies c.all ∙ bodies-checked c.are;
+    }
+
 -- Where a whole file ends.
 pub end-whole : (file : SpoolFile) → is_whole file ≡ true
     → end_of file ≡ file.number + length (bodies_in file)
-unfolding end_of
+unfolding end_of bodies_end
 end-whole file is =
     let none : ◌≡◌ {A = ℕ} (cond (is_whole file) 0 1) 0 = cond-true (is_whole file) 0 1 is in
-    omega (arith, none)
-
--- Where a file ends that is not whole.
-pub end-torn : (file : SpoolFile) → is_whole file ≡ false
-    → end_of file ≡ file.number + length (bodies_in file) + 1
-unfolding end_of
-end-torn file is =
-    let one : ◌≡◌ {A = ℕ} (cond (is_whole file) 0 1) 1 = cond-false (is_whole file) 0 1 is in
-    omega (arith, one)
+    let w = whole-bodies file is in
+    omega (
+      arith,
+      none,
+      ap span w.all,
+      span-whole w.bodies_are,
+      ap length w.all,
+      length-map w.bodies_are Some,
+    )
 
 -- ---- a file that grew
 
@@ -125,7 +141,7 @@ pub record Grew (disk : Disk) (more : List ℕ) : Type 0 where
   -- what waits from a number on that is not beyond the end
   pub waits : (n : ℕ) → n ≤ next_number disk
       → waiting_from n (grow_last more disk)
-      ≡ waiting_from n disk ++ enumerate_from (next_number disk) (bodies (contents more))
+      ≡ waiting_from n disk ++ numbered (next_number disk) (bodies (contents more))
   pub done : done_to (grow_last more disk) ≡ max (done_to disk) (greatest (notes (contents more)))
   pub size : disk_size (grow_last more disk) ≡ disk_size disk + length more
 
@@ -146,24 +162,21 @@ grew disk more can =
     sym (end-whole last can.whole) ∙ can.end in
     record {
       waits = λ n le.
-          let fits : n - last.number ≤ length (enumerate_from last.number (bodies_in last)) =
-          omega (arith, le, end, length-enumerate last.number (bodies_in last)) in
-          let added : waiting_in n (grown more last)
-          ≡ waiting_in n last ++ enumerate_from (next_number disk) (bodies (contents more)) =
-          ap
-          (λ (l : List (List ℕ)). drop (n - last.number) (enumerate_from last.number l)) bodies_are
-          ∙ (ap (λ (l : List (ℕ × List ℕ)). drop (n - last.number) l)
-          (enumerate-append last.number (next_number disk) (bodies_in last)
+          let these = numbered last.number (bodies_in last) in
+          let those = numbered (next_number disk) (bodies (contents more)) in
+          let added : waiting_in n (grown more last) ≡ waiting_in n last ++ those =
+          ap (λ (l : List (Option (List ℕ))). numbered_from n (numbered last.number l)) bodies_are
+          ∙ (ap (numbered_from n)
+          (numbered-append last.number (next_number disk) (bodies_in last)
           (bodies (contents more)) end)
-          ∙ drop-append-le (n - last.number) (enumerate_from last.number (bodies_in last))
-          (enumerate_from (next_number disk) (bodies (contents more))) fits) in
+          ∙ (filter-append (λ b. nat_le n b.0) these those
+          ∙ ap (λ (l : List (ℕ × List ℕ)). numbered_from n these ++ l)
+          (numbered-all n (next_number disk) (bodies (contents more)) le))) in
           ap (waiting_from n) now
           ∙ (waiting-last front (grown more last) n
           ∙ (ap (λ (l : List (ℕ × List ℕ)). waiting_from n front ++ l) added
-          ∙ (sym (append_assoc (waiting_from n front) (waiting_in n last)
-          (enumerate_from (next_number disk) (bodies (contents more))))
-          ∙ ap (λ (l : List (ℕ × List ℕ)).
-          l ++ enumerate_from (next_number disk) (bodies (contents more)))
+          ∙ (sym (append_assoc (waiting_from n front) (waiting_in n last) those)
+          ∙ ap (λ (l : List (ℕ × List ℕ)). l ++ those)
           (sym (waiting-last front last n) ∙ ap (waiting_from n) (sym can.split)))));
       done =
           let here = done-last front (grown more last) in

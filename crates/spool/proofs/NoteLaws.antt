@@ -6,7 +6,7 @@ use Rattle.std.proofs.lemmas.List.Elements.{filter_map-append}
 use Rattle.spool.specs.Disks.{Disk, grown, grow_last, disk_size}
 use Rattle.spool.specs.Crashes.{Appended, LeavesOnly}
 use Rattle.spool.specs.Records.{note_content, note_size, contents, notes}
-use Rattle.spool.specs.Records.{note_of}
+use Rattle.spool.specs.Records.{noted_by}
 use Rattle.spool.specs.Spools.{done_to, next_number, waiting, waiting_from, CanGrow}
 use Rattle.spool.specs.Spools.{reserved, Rises}
 use Rattle.spool.specs.Spools.{numbered_from, LeftByNote, notes_in, greatest}
@@ -199,7 +199,7 @@ module _ (disk now : Disk) (rises : Rises disk) (same : IsSame disk now) (can : 
       ap (grow_last bytes) can.split ∙ grow-front bytes can.front last in
       let noted_in : notes_in (grown bytes last) ≡ notes_in last ++ number ∷ [] =
       ap notes on.contents_are
-      ∙ (filter_map-append note_of (contents last.bytes) (contents bytes)
+      ∙ (filter_map-append noted_by (contents last.bytes) (contents bytes)
       ∙ ap (λ (l : List ℕ). notes_in last ++ l)
       (ap notes read.0 ∙ notes-note number note.small)) in
       let newest : last_done (grow_last bytes now) ≡ greatest (notes_in last ++ number ∷ []) =

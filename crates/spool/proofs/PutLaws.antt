@@ -4,17 +4,17 @@ use Rattle.std.proofs.Common.{◌≡◌, ◌⊎◌, inl, inr, refl, sym, ap, ap�
 use Rattle.std.proofs.Common.{◌+◌, ◌-◌, ◌^◌}
 use Rattle.std.proofs.Common.{◌<◌, ◌≤◌, max, min, List, [], ◌∷◌, ◌++◌, length, take, drop, map}
 use Rattle.std.proofs.Common.{arith, true}
-use Rattle.std.specs.Prelude.{flat_map}
+use Rattle.std.specs.Prelude.{flat_map, Option, Some}
 use Rattle.std.proofs.lemmas.Bool.{cases_lt}
-use Rattle.std.proofs.lemmas.List.{append-nil, drop_all, take-map}
+use Rattle.std.proofs.lemmas.List.{append-nil, take-map}
 use Rattle.std.proofs.lemmas.List.{length-take, length-map}
 use Rattle.std.proofs.lemmas.List.Sums.{sum_by-append}
 use Rattle.std.specs.List.{enumerate_from, AllByRecursion}
 use Rattle.spool.specs.Disks.{SpoolFile, Disk, new_file, grown, grow_last, disk_size}
 use Rattle.spool.specs.Records.{contents, bodies, notes, body_content, note_content}
 use Rattle.spool.specs.Records.{IsContent, spelled}
-use Rattle.spool.specs.Records.{record_bytes, note_size}
-use Rattle.spool.specs.Spools.{bodies_in, notes_in, is_whole, end_of, greatest, done_to}
+use Rattle.spool.specs.Records.{record_bytes, note_size, numbered}
+use Rattle.spool.specs.Spools.{bodies_in, notes_in, is_whole, bodies_end, end_of, greatest, done_to}
 use Rattle.spool.specs.Spools.{next_number}
 use Rattle.spool.specs.Spools.{waiting_in, waiting_from, waiting, numbered_from, CanGrow}
 use Rattle.spool.specs.Spools.{Rises}
@@ -22,7 +22,7 @@ use Rattle.spool.specs.Settled.{IsSame, last_done, LeftByAdding}
 use Rattle.spool.proofs.RecordLaws.{read-nil, read-spelled, read-cut}
 use Rattle.spool.proofs.RecordLaws.{length-record}
 use Rattle.spool.proofs.ContentLaws.{bodies-put, notes-put, notes-note}
-use Rattle.spool.proofs.ContentLaws.{length-enumerate}
+use Rattle.spool.proofs.ContentLaws.{numbered-whole, numbered-none}
 use Rattle.spool.proofs.DiskLaws.{greatest-append, grow-front, done-last, next-last, waiting-last}
 use Rattle.spool.proofs.DiskLaws.{size-last, numbered-waiting}
 use Rattle.spool.proofs.DiskLaws.{rest-whole, end-whole, grew, grew-whole}
@@ -37,10 +37,8 @@ done-next disk = omega arith
 
 -- Of a file that ends before a number nothing waits from there on.
 pub none-in : (n : ℕ) (file : SpoolFile) → end_of file ≤ n → waiting_in n file ≡ []
-unfolding waiting_in end_of
-none-in n file le =
-    drop_all (n - file.number) (enumerate_from file.number (bodies_in file))
-    (omega (arith, le, length-enumerate file.number (bodies_in file)))
+unfolding waiting_in end_of bodies_end
+none-in n file le = numbered-none n file.number (bodies_in file) (omega (arith, le))
 
 none-from : (n : ℕ) (disk : Disk) → greatest (map end_of disk) ≤ n → waiting_from n disk ≡ []
 unfolding waiting_from
@@ -85,9 +83,9 @@ module _ (disk : Disk) (bs : List (List ℕ)) (can : CanGrow disk)
       let more = take k (spelled (put_contents bs)) in
       let cut = read-cut (put_contents bs) k all in
       let g = grew disk more can in
-      let some : contents more ≡ put_contents (take cut.count bs) =
-      cut.are ∙ take-map body_content cut.count bs in
-      let bodies_are : bodies (contents more) ≡ take cut.count bs =
+      let some : contents more ≡ map Some (put_contents (take cut.count bs)) =
+      cut.are ∙ ap (λ (l : List (List ℕ)). map Some l) (take-map body_content cut.count bs) in
+      let bodies_are : bodies (contents more) ≡ map Some (take cut.count bs) =
       ap bodies some ∙ bodies-put (take cut.count bs) in
       let notes_are : notes (contents more) ≡ [] = ap notes some ∙ notes-put (take cut.count bs) in
       let done : done_to (grow_last more disk) ≡ done_to disk =
@@ -98,9 +96,9 @@ module _ (disk : Disk) (bs : List (List ℕ)) (can : CanGrow disk)
         waits =
             ap (λ (n : ℕ). waiting_from n (grow_last more disk)) done
             ∙ (g.waits (done_to disk) (done-next disk)
-            ∙ ap (λ (l : List (List ℕ)).
-            waiting_from (done_to disk) disk ++ enumerate_from (next_number disk) l)
-            bodies_are);
+            ∙ ap (λ (l : List (ℕ × List ℕ)). waiting_from (done_to disk) disk ++ l)
+            (ap (numbered (next_number disk)) bodies_are
+            ∙ numbered-whole (next_number disk) (take cut.count bs)));
         within = omega (arith, g.size, fits, length-cut k (spelled (put_contents bs)));
         rises = rises-grown disk more rises;
       }
@@ -127,21 +125,23 @@ put-whole disk bs can all =
     let read = read-spelled (put_contents bs) all in
     let g = grew disk more can in
     let w = grew-whole disk more can read.1 in
-    let bodies_are : bodies (contents more) ≡ bs = ap bodies read.0 ∙ bodies-put bs in
+    let bodies_are : bodies (contents more) ≡ map Some bs = ap bodies read.0 ∙ bodies-put bs in
+    let counted : length (bodies (contents more)) ≡ length bs =
+    ap length bodies_are ∙ length-map bs Some in
     let notes_are : notes (contents more) ≡ [] = ap notes read.0 ∙ notes-put bs in
     let done : done_to (grow_last more disk) ≡ done_to disk =
     g.done ∙ (ap (λ (l : List ℕ). max (done_to disk) (greatest l)) notes_are ∙ omega arith) in
     let end : end_of (grown more can.last) ≡ next_number disk + length bs =
-    w.1 ∙ ap (λ (l : List (List ℕ)). next_number disk + length l) bodies_are in
+    w.1 ∙ ap (λ (n : ℕ). next_number disk + n) counted in
     let next : next_number (grow_last more disk) ≡ next_number disk + length bs =
-    w.2 ∙ omega (arith, done, done-next disk, ap length bodies_are) in
+    w.2 ∙ omega (arith, done, done-next disk, counted) in
     record {
       waits =
           ap (λ (n : ℕ). waiting_from n (grow_last more disk)) done
           ∙ (g.waits (done_to disk) (done-next disk)
-          ∙ ap (λ (l : List (List ℕ)).
-          waiting_from (done_to disk) disk ++ enumerate_from (next_number disk) l)
-          bodies_are);
+          ∙ ap (λ (l : List (ℕ × List ℕ)). waiting_from (done_to disk) disk ++ l)
+          (ap (numbered (next_number disk)) bodies_are
+          ∙ numbered-whole (next_number disk) bs));
       done = done;
       next = next;
       size = g.size;
@@ -198,8 +198,8 @@ module _ (disk : Disk) (n : ℕ) (can : CanGrow disk) (is : IsContent (note_cont
         waits =
             ap (λ (m : ℕ). waiting_from m (grow_last more disk)) done
             ∙ (g.waits n there
-            ∙ (ap
-            (λ (l : List (List ℕ)). waiting_from n disk ++ enumerate_from (next_number disk) l)
+            ∙ (ap (λ (l : List (Option (List ℕ))).
+            waiting_from n disk ++ numbered (next_number disk) l)
             bodies_are
             ∙ append-nil (waiting_from n disk)));
         done = done;
@@ -228,21 +228,21 @@ module _ (disk : Disk) (n : ℕ) (can : CanGrow disk) (is : IsContent (note_cont
         | inl none ↦
             let z : cut.count ≡ 0 = omega (arith, none) in
             let some : contents more ≡ [] =
-            cut.are ∙ ap (λ (j : ℕ). take j (note_content n ∷ [])) z in
+            cut.are ∙ ap (λ (j : ℕ). map Some (take j (note_content n ∷ []))) z in
             let done : done_to (grow_last more disk) ≡ done_to disk =
             g.done
-            ∙ (ap (λ (l : List (List ℕ)). max (done_to disk) (greatest (notes l))) some
+            ∙ (ap (λ (l : List (Option (List ℕ))). max (done_to disk) (greatest (notes l))) some
             ∙ omega arith) in
             inl (ap (λ (m : ℕ). waiting_from m (grow_last more disk)) done
             ∙ (g.waits (done_to disk) (done-next disk)
-            ∙ (ap (λ (l : List (List ℕ)).
-            waiting_from (done_to disk) disk ++ enumerate_from (next_number disk) (bodies l))
+            ∙ (ap (λ (l : List (Option (List ℕ))).
+            waiting_from (done_to disk) disk ++ numbered (next_number disk) (bodies l))
             some
             ∙ append-nil (waiting_from (done_to disk) disk))))
         | inr one ↦
             let o : cut.count ≡ 1 = omega (arith, one, cut.few) in
-            let some : contents more ≡ note_content n ∷ [] =
-            cut.are ∙ ap (λ (j : ℕ). take j (note_content n ∷ [])) o in
+            let some : contents more ≡ Some (note_content n) ∷ [] =
+            cut.are ∙ ap (λ (j : ℕ). map Some (take j (note_content n ∷ []))) o in
             let notes_are : notes (contents more) ≡ n ∷ [] = ap notes some ∙ notes-note n small in
             let done : done_to (grow_last more disk) ≡ n =
             g.done
@@ -250,8 +250,8 @@ module _ (disk : Disk) (n : ℕ) (can : CanGrow disk) (is : IsContent (note_cont
             ∙ omega (arith, later)) in
             inr (ap (λ (m : ℕ). waiting_from m (grow_last more disk)) done
             ∙ (g.waits n there
-            ∙ (ap (λ (l : List (List ℕ)).
-            waiting_from n disk ++ enumerate_from (next_number disk) (bodies l))
+            ∙ (ap (λ (l : List (Option (List ℕ))).
+            waiting_from n disk ++ numbered (next_number disk) (bodies l))
             some
             ∙ append-nil (waiting_from n disk))))
       ]
@@ -268,10 +268,6 @@ module _ (disk : Disk) (n : ℕ) (can : CanGrow disk) (is : IsContent (note_cont
       )
 
 -- ---- a file that is made
-
-drop-nil : (j : ℕ) → ◌≡◌ {A = List (ℕ × List ℕ)} (drop j []) []
-drop-nil zero = refl
-drop-nil (suc j) = refl
 
 max-nothing : (n : ℕ) → max n 0 ≡ n
 max-nothing n = omega arith
@@ -297,10 +293,9 @@ made disk =
     record {
       waits = λ n.
           waiting-last disk file n
-          ∙ (ap (λ (l : List (ℕ × List ℕ)). waiting_from n disk ++ l)
-          (ap
-          (λ (l : List (List ℕ)). drop (n - file.number) (enumerate_from file.number l)) no_bodies
-          ∙ drop-nil (n - file.number))
+          ∙ (ap (λ (l : List (Option (List ℕ))).
+          waiting_from n disk ++ numbered_from n (numbered file.number l))
+          no_bodies
           ∙ append-nil (waiting_from n disk));
       done = done;
       next = next-last disk file ∙ omega (arith, done, end);

@@ -2,11 +2,15 @@
 use Rattle.std.proofs.Common.{◌≡◌, inl, inr, sym, ap, ap₂, ◌∙◌, subst, ℕ, zero, suc, ◌+◌, ◌-◌, ◌≤◌}
 use Rattle.std.proofs.Common.{max, List, [], ◌∷◌, ◌++◌, length, take, drop, map, arith, refl}
 use Rattle.std.proofs.lemmas.Bool.{cases_lt}
-use Rattle.std.specs.List.{AllByRecursion, enumerate_from}
+use Rattle.std.specs.Prelude.{Option, Some, None}
+use Rattle.std.specs.List.{AllByRecursion}
 use Rattle.spool.specs.Disks.{SpoolFile, Disk, grow_last}
+use Rattle.spool.specs.Records.{numbered, span}
 use Rattle.spool.specs.Spools.{bodies_in, bodies_end, end_of, greatest, done_to}
 use Rattle.spool.specs.Spools.{next_number, waiting_in}
 use Rattle.spool.specs.Spools.{waiting_from, waiting, numbered_from, Rises, AreRising}
+use Rattle.spool.proofs.ContentLaws.{span-damaged, span-none, numbered-below, numbered-above}
+use Rattle.spool.proofs.ContentLaws.{numbered-all}
 use Rattle.spool.proofs.DiskLaws.{numbered-waiting}
 
 -- ---- files that rise
@@ -109,25 +113,29 @@ rising-append a b c [] ys first second = rising-lower a b c ys first second
 rising-append a b c (x ∷ xs) ys first second =
     (first.0, rising-append (x.0 + 1) b c xs ys first.1 second)
 
-drop-nil : (j : ℕ) → ◌≡◌ {A = List (ℕ × List ℕ)} (drop j []) []
-drop-nil zero = refl
-drop-nil (suc j) = refl
-
 -- numbered bodies, without those below a number
-rising-numbered : (d k last : ℕ) (bs : List (List ℕ)) → d ≤ last → k + length bs ≤ last
-    → AreRising d last (drop (d - k) (enumerate_from k bs))
-rising-numbered d k last [] le fits = subst (AreRising d last) (sym (drop-nil (d - k))) le
-rising-numbered d k last (b ∷ bs) le fits = elim (cases_lt k d) [
+rising-numbered : (d k last : ℕ) (bs : List (Option (List ℕ))) → d ≤ last → k + span bs ≤ last
+    → AreRising d last (numbered_from d (numbered k bs))
+rising-numbered d k last [] le fits = le
+rising-numbered d k last (None ∷ bs) le fits = elim (span-damaged bs) [
+  | inl both ↦
+      let none : numbered_from d (numbered (k + 1) bs) ≡ [] =
+      ap (numbered_from d) (span-none (k + 1) bs both.1) in
+      subst (AreRising d last) (sym none) le
+  | inr both ↦ rising-numbered d (k + 1) last bs le (omega (arith, both.0, fits))
+]
+rising-numbered d k last (Some b ∷ bs) le fits = elim (cases_lt k d) [
   | inl lt ↦
-      let e : suc (d - (k + 1)) ≡ d - k = omega arith in
-      subst (λ (j : ℕ). AreRising d last (drop j ((k, b) ∷ enumerate_from (k + 1) bs))) e
+      subst (AreRising d last) (sym (numbered-below d k b (numbered (k + 1) bs) lt))
       (rising-numbered d (k + 1) last bs le (omega (arith, fits)))
   | inr ge ↦
-      let e : 0 ≡ d - k = omega arith in
-      let none : k + 1 - (k + 1) ≡ 0 = omega arith in
-      subst (λ (j : ℕ). AreRising d last (drop j ((k, b) ∷ enumerate_from (k + 1) bs))) e (
+      let others = numbered (k + 1) bs in
+      let all : numbered_from d others ≡ numbered_from (k + 1) others =
+      numbered-all d (k + 1) bs (omega (arith, ge))
+      ∙ sym (numbered-all (k + 1) (k + 1) bs (omega arith)) in
+      subst (AreRising d last) (sym (numbered-above d k b others ge)) (
         ge,
-        subst (λ (j : ℕ). AreRising (k + 1) last (drop j (enumerate_from (k + 1) bs))) none
+        subst (AreRising (k + 1) last) (sym all)
             (rising-numbered (k + 1) (k + 1) last bs (omega (arith, fits)) (omega (arith, fits))),
       )
 ]
@@ -138,14 +146,32 @@ rising-in d file =
     rising-numbered d file.number (max d (bodies_end file)) (bodies_in file) (omega arith)
     (omega arith)
 
+-- of bodies from a number on, those from another on are those from the higher of the two on
+same-numbered : (d n k : ℕ) (bs : List (Option (List ℕ))) → n ≤ k
+    → numbered_from (max d n) (numbered k bs) ≡ numbered_from d (numbered k bs)
+same-numbered d n k [] le = refl
+same-numbered d n k (None ∷ bs) le = same-numbered d n (k + 1) bs (omega (arith, le))
+same-numbered d n k (Some b ∷ bs) le =
+    let others = numbered (k + 1) bs in
+    let more = same-numbered d n (k + 1) bs (omega (arith, le)) in
+    elim (cases_lt k d) [
+      | inl lt ↦
+          numbered-below (max d n) k b others (omega (arith, lt))
+          ∙ (more ∙ sym (numbered-below d k b others lt))
+      | inr ge ↦
+          numbered-above (max d n) k b others (omega (arith, ge, le))
+          ∙ (ap (λ (l : List (ℕ × List ℕ)). (k, b) ∷ l) more
+          ∙ sym (numbered-above d k b others ge))
+    ]
+
 -- of files from a number on, what waits waits from there on too
 same-from : (d n : ℕ) (disk : Disk) → AreFrom n disk
     → waiting_from (max d n) disk ≡ waiting_from d disk
 unfolding waiting_from waiting_in
 same-from d n [] all = refl
 same-from d n (f ∷ disk) all =
-    let e : max d n - f.number ≡ d - f.number = omega (arith, all.0) in
-    ap₂ (λ (j : ℕ) (l : List (ℕ × List ℕ)). drop j (enumerate_from f.number (bodies_in f)) ++ l) e
+    ap₂ (λ (l : List (ℕ × List ℕ)) (k : List (ℕ × List ℕ)). l ++ k)
+    (same-numbered d n f.number (bodies_in f) all.0)
     (same-from d n disk all.1)
 
 rising-from : (d last : ℕ) (disk : Disk) → Rises disk → d ≤ last

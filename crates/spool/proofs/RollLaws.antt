@@ -3,12 +3,12 @@ use Rattle.std.proofs.Common.{◌≡◌, inl, inr, refl, sym, ap, ap₂, ◌∙�
 use Rattle.std.proofs.Common.{◌^◌, ◌<◌, ◌≤◌, List, [], ◌∷◌, ◌++◌, length, map, arith}
 use Rattle.std.specs.Prelude.{All, Option, Some, None}
 use Rattle.std.specs.Option.{option_to_list}
-use Rattle.std.specs.List.{AllByRecursion, enumerate_from}
-use Rattle.std.proofs.lemmas.List.{drop_all, length-drop}
+use Rattle.std.proofs.lemmas.Bool.{cases_lt}
+use Rattle.std.specs.List.{AllByRecursion}
 use Rattle.std.proofs.lemmas.List.Elements.{All-from_recursion, recursion_from_All}
 use Rattle.spool.specs.Disks.{SpoolFile, Disk, disk_size}
 use Rattle.spool.specs.Crashes.{Appended, LeavesOnly}
-use Rattle.spool.specs.Records.{IsContent, note_content, note_size, spelled}
+use Rattle.spool.specs.Records.{IsContent, note_content, note_size, spelled, span}
 use Rattle.spool.specs.Spools.{bodies_in, bodies_end, is_whole, end_of, done_to, next_number}
 use Rattle.spool.specs.Spools.{waiting, waiting_in, waiting_from, numbered_from}
 use Rattle.spool.specs.Spools.{CanGrow, Rises}
@@ -18,7 +18,7 @@ use Rattle.spool.specs.declared.state.Segment.{Segment}
 use Rattle.spool.proofs.Moments.{weaker, and_then}
 use Rattle.spool.proofs.StateLaws.{same-refl}
 use Rattle.spool.proofs.CallLaws.{same-waiting}
-use Rattle.spool.proofs.ContentLaws.{length-enumerate}
+use Rattle.spool.proofs.ContentLaws.{span-none, numbered-none, ends-below}
 use Rattle.spool.proofs.PutLaws.{done-next, length-note}
 use Rattle.spool.proofs.NoteLaws.{cut-by-note}
 
@@ -27,20 +27,18 @@ use Rattle.spool.proofs.NoteLaws.{cut-by-note}
 -- Of a file whose bodies ended none waits.
 ended-in : (d : ℕ) (f : SpoolFile) → IsEnded d (segment_of f) → waiting_in d f ≡ []
 unfolding waiting_in end_of bodies_end is_whole
-ended-in d f ended =
-    drop_all (d - f.number) (enumerate_from f.number (bodies_in f))
-    (omega (arith, ended, length-enumerate f.number (bodies_in f)))
+ended-in d f ended = elim (cases_lt d f.number) [
+  | inl lt ↦
+      let none : span (bodies_in f) ≡ 0 = omega (arith, ended, lt) in
+      ap (numbered_from d) (span-none f.number (bodies_in f) none)
+  | inr ge ↦ numbered-none d f.number (bodies_in f) (omega (arith, ended, ge))
+]
 
 -- Where none waits they ended.
 in-ended : (d : ℕ) (f : SpoolFile) → waiting_in d f ≡ [] → IsEnded d (segment_of f)
 unfolding waiting_in end_of bodies_end is_whole
 in-ended d f none =
-    omega (
-      arith,
-      ap length none,
-      length-drop (d - f.number) (enumerate_from f.number (bodies_in f)),
-      length-enumerate f.number (bodies_in f),
-    )
+    omega (arith, ends-below d f.number (bodies_in f) none)
 
 none-of : (xs ys : List (ℕ × List ℕ)) → xs ++ ys ≡ [] → (xs ≡ []) × (ys ≡ [])
 none-of [] ys is = (refl, is)

@@ -32,7 +32,7 @@ unfolding bodies_in
 end-new n =
     let file = new_file n in
     end-whole file (rest-whole file read-nil.1)
-    ∙ omega (arith, ap (λ (l : List (List ℕ)). n + length (bodies l)) read-nil.0)
+    ∙ omega (arith, ap (λ (l : List (Option (List ℕ))). n + length (bodies l)) read-nil.0)
 
 -- The same files mean the same.
 pub same-refl : (disk left : Disk) → left ≡ disk → IsSame disk left

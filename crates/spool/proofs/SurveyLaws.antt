@@ -1,20 +1,18 @@
 -- What is found in one more file, and the spool that is made of what was found.
 use Rattle.std.proofs.Common.{◌≡◌, inl, inr, refl, sym, ap, ap₂, ◌∙◌, subst, ℕ, zero, suc}
-use Rattle.std.proofs.Common.{◌+◌, ◌-◌, ◌<◌, ◌≤◌, max}
-use Rattle.std.proofs.Common.{List, [], ◌∷◌, ◌++◌, length, map, drop, arith}
+use Rattle.std.proofs.Common.{◌+◌, ◌<◌, ◌≤◌, max}
+use Rattle.std.proofs.Common.{List, [], ◌∷◌, ◌++◌, length, map, arith}
 use Rattle.std.proofs.Common.{cond, get_or}
 use Rattle.std.specs.Prelude.{Option, Some, None, IsSome, ◌==◌, slice_get}
 use Rattle.std.specs.Option.{option_to_list}
-use Rattle.std.proofs.lemmas.Bool.{cases_lt}
 use Rattle.std.proofs.lemmas.List.{append-nil, map-append, get_or-map, length-map}
 use Rattle.std.proofs.lemmas.List.Sums.{sum_by-append}
 use Rattle.spool.specs.Disks.{SpoolFile, Disk, disk_size, file_numbers}
 use Rattle.spool.specs.Crashes.{Only}
-use Rattle.spool.specs.Records.{contents, rest, bodies, notes}
+use Rattle.spool.specs.Records.{contents, rest, bodies, notes, numbered, span}
 use Rattle.spool.specs.Spools.{bodies_in, notes_in, is_whole, bodies_end, end_of, greatest}
 use Rattle.spool.specs.Spools.{done_to, next_number}
-use Rattle.std.specs.List.{enumerate_from}
-use Rattle.spool.specs.Spools.{damaged_bytes, waiting_in, Rises}
+use Rattle.spool.specs.Spools.{damaged_bytes, numbered_from, waiting_in, Rises}
 use Rattle.spool.specs.Settled.{segment_of, IsSettled}
 use Rattle.spool.specs.Surveys.{IsSurvey, IsSplit}
 use Rattle.spool.specs.declared.state.Segment.{Segment}
@@ -41,15 +39,15 @@ survey-none survey segments done bodies_are ends size damaged = record {
 
 -- Where the bodies of a file end, as they are found.
 bodies-end-found : (file : SpoolFile) (n b : ℕ) → file.number ≡ n
-    → b ≡ length (bodies (contents file.bytes)) → bodies_end file ≡ n + b
-unfolding bodies_end
+    → b ≡ span (bodies (contents file.bytes)) → bodies_end file ≡ n + b
+unfolding bodies_end bodies_in
 bodies-end-found file n b number count = omega (arith, number, count)
 
 -- Where a file ends, as it is found.
 pub end-found : (file : SpoolFile) (n b t r : ℕ) → file.number ≡ n
-    → b ≡ length (bodies (contents file.bytes)) → r ≡ length (rest file.bytes)
+    → b ≡ span (bodies (contents file.bytes)) → r ≡ length (rest file.bytes)
     → t ≡ cond (r == 0) 0 1 → end_of file ≡ n + b + t
-unfolding end_of bodies_in is_whole
+unfolding end_of bodies_end bodies_in is_whole
 end-found file n b t r number count left torn =
     let same : cond (r == 0) 0 1 ≡ cond (length (rest file.bytes) == 0) 0 1 =
     ap (λ (k : ℕ). let c : ℕ = cond (k == 0) 0 1 in c) left in
@@ -58,7 +56,7 @@ end-found file n b t r number count left torn =
 -- With one more file.
 pub survey-more : (disk : Disk) (file : SpoolFile) (old new : Survey) (n b t r d : ℕ)
     → IsSurvey disk old → file.number ≡ n → old.bodies_end ≤ n
-    → b ≡ length (bodies (contents file.bytes)) → d ≡ greatest (notes (contents file.bytes))
+    → b ≡ span (bodies (contents file.bytes)) → d ≡ greatest (notes (contents file.bytes))
     → r ≡ length (rest file.bytes) → t ≡ cond (r == 0) 0 1
     → new.segments.items
     ≡ old.segments.items
@@ -257,38 +255,13 @@ segment-at (f ∷ disk) zero file is =
     let same : f ≡ file = cc in ap (λ (x : SpoolFile). Some (segment_of x)) same
 segment-at (f ∷ disk) (suc i) file is = segment-at disk i file is
 
-drop-nil : {X : Type 0} (n : ℕ) → ◌≡◌ {A = List X} (drop n []) []
-drop-nil zero = refl
-drop-nil (suc n) = refl
-
--- Numbered bodies without those before a number, by the bodies.
-pub drop-enumerate : (d k : ℕ) (bs : List (List ℕ))
-    → drop (d - k) (enumerate_from k bs) ≡ enumerate_from (max k d) (drop (d - k) bs)
-drop-enumerate d k [] =
-    ap (λ (l : List (ℕ × List ℕ)). l) (drop-nil (d - k))
-    ∙ ap (enumerate_from (max k d)) (sym (drop-nil (d - k)))
-drop-enumerate d k (b ∷ bs) = elim (cases_lt k d) [
-  | inl lt ↦
-      let e : d - k ≡ suc (d - (k + 1)) = omega arith in
-      let m : max (k + 1) d ≡ max k d = omega arith in
-      ap (λ (n : ℕ). drop n ((k, b) ∷ enumerate_from (k + 1) bs)) e
-      ∙ (drop-enumerate d (k + 1) bs
-      ∙ (ap (λ (n : ℕ). enumerate_from n (drop (d - (k + 1)) bs)) m
-      ∙ ap (λ (n : ℕ). enumerate_from (max k d) (drop n (b ∷ bs))) (sym e)))
-  | inr ge ↦
-      let e : d - k ≡ 0 = omega arith in
-      let m : max k d ≡ k = omega arith in
-      ap (λ (n : ℕ). drop n ((k, b) ∷ enumerate_from (k + 1) bs)) e
-      ∙ ap₂ (λ (n : ℕ) (j : ℕ). enumerate_from n (drop j (b ∷ bs))) (sym m) (sym e)
-]
-
 -- The bodies of a file that wait, by its records.
-pub bodies-waiting : (done first skip : ℕ) (file : SpoolFile) (found : List (List ℕ))
-    → skip ≡ done - file.number → first ≡ max file.number done
-    → found ≡ drop skip (bodies (contents file.bytes))
-    → enumerate_from first found ≡ waiting_in done file
+pub bodies-waiting : (done start number : ℕ) (file : SpoolFile) (bytes : List ℕ)
+    (found : List (ℕ × List ℕ)) → start ≡ done → number ≡ file.number → bytes ≡ file.bytes
+    → found ≡ numbered_from start (numbered number (bodies (contents bytes)))
+    → found ≡ waiting_in done file
 unfolding waiting_in bodies_in
-bodies-waiting done first skip file found skipped first_is are =
-    ap₂ (λ (n : ℕ) (l : List (List ℕ)). enumerate_from n l) first_is
-    (are ∙ ap (λ (n : ℕ). drop n (bodies (contents file.bytes))) skipped)
-    ∙ sym (drop-enumerate done file.number (bodies (contents file.bytes)))
+bodies-waiting done start number file bytes found begins first are is =
+    is
+    ∙ (ap (λ (n : ℕ). numbered_from n (numbered number (bodies (contents bytes)))) begins
+    ∙ ap₂ (λ (n : ℕ) (l : List ℕ). numbered_from done (numbered n (bodies (contents l)))) first are)

@@ -26,6 +26,19 @@ old_file = record { number = 5; bytes = first ++ second }
 abbrev pub torn_file : SpoolFile
 torn_file = record { number = 9; bytes = second ++ note ++ take 9 second }
 
+-- the same record, with another bit in its length
+abbrev pub longer : List ℕ
+longer = 7 ∷ 0 ∷ 0 ∷ 0 ∷ 208 ∷ 173 ∷ 25 ∷ 191 ∷ 1 ∷ 7 ∷ 8 ∷ []
+
+-- the record of the note, with another bit in its number
+abbrev pub flipped_note : List ℕ
+flipped_note =
+    9 ∷ 0 ∷ 0 ∷ 0 ∷ 175 ∷ 53 ∷ 144 ∷ 14 ∷ 2 ∷ 7 ∷ 0 ∷ 0 ∷ 0 ∷ 0 ∷ 0 ∷ 0 ∷ 0 ∷ []
+
+-- a file of a body, a body that is damaged, and a note
+abbrev pub lost_file : SpoolFile
+lost_file = record { number = 30; bytes = second ++ (flipped ++ note) }
+
 -- a file of which the first record is damaged
 abbrev pub damaged_file : SpoolFile
 damaged_file = record { number = 20; bytes = flipped ++ first }

@@ -1,5 +1,6 @@
 pub mod Records
 pub mod Spools
+pub mod Reading
 pub mod Errors
 pub mod Examples
 pub mod Settled

@@ -1,7 +1,9 @@
 -- The bytes of a file of a spool: records, one after the other. (profile)
 use Rattle.std.specs.Prelude.{ℕ, zero, suc, ◌+◌, ◌^◌, ◌<◌, ◌==◌, nat_lt, nat_le, Bool}
-use Rattle.std.specs.Prelude.{◌&&◌, List, [], ◌∷◌, ◌++◌, length, take, drop, flat_map, filter_map}
-use Rattle.std.specs.Prelude.{Option, Some, None, if◌then◌else◌}
+use Rattle.std.specs.Prelude.{◌&&◌, ◌||◌, not, false, List, [], ◌∷◌, ◌++◌, length, take, drop}
+use Rattle.std.specs.Prelude.{flat_map}
+use Rattle.std.specs.Prelude.{filter_map, Option, Some, None, if◌then◌else◌}
+use Rattle.std.specs.Option.{option_map}
 use Rattle.std.specs.Int.{w32, w64, to_le_bytes, from_le_bytes}
 use Rattle.model_deflate.specs.Crc.{crc32}
 
@@ -47,27 +49,51 @@ is_record_at bytes =
     nat_lt 0 (length_at bytes) && (nat_le (8 + length_at bytes) (length bytes)
     && (from_le_bytes w32 (take 4 (drop 4 bytes)) == crc32 (content_at bytes)))
 
+-- ---- a damaged record
+
+-- Whether bytes that begin with no record are those of a damaged one which is skipped: the record
+-- after it, by its length, checks.
+unfoldable pub is_skipped_at : List ℕ → Bool
+unfolding length_at after_at is_record_at
+is_skipped_at bytes = nat_lt 0 (length_at bytes) && is_record_at (after_at bytes)
+
+-- Whether the content of a damaged record kept a body: unless it is as long as that of a note, and
+-- doesn't begin as one with a body.
+abbrev pub kept_body : List ℕ → Bool
+kept_body [] = false
+kept_body (kind ∷ bytes) = (kind == 1) || not (length bytes == 8)
+
+-- what is known of a damaged record's content: that it kept a body, or nothing
+abbrev pub damaged_content : List ℕ → List (Option (List ℕ))
+damaged_content content = if kept_body content then None ∷ [] else []
+
 -- ---- all records
 
--- the contents of up to so many records that bytes begin with
-unfoldable pub contents_by : ℕ → List ℕ → List (List ℕ)
+-- the contents of up to so many records that are read of bytes
+unfoldable pub contents_by : ℕ → List ℕ → List (Option (List ℕ))
 contents_by zero bytes = []
 contents_by (suc n) bytes =
-    if is_record_at bytes then content_at bytes ∷ contents_by n (after_at bytes) else []
+    if is_record_at bytes then Some (content_at bytes) ∷ contents_by n (after_at bytes)
+    else if is_skipped_at bytes
+    then damaged_content (content_at bytes) ++ contents_by n (after_at bytes) else []
 
--- the bytes after these
+-- the bytes that are not read
 unfoldable pub rest_by : ℕ → List ℕ → List ℕ
 rest_by zero bytes = bytes
-rest_by (suc n) bytes = if is_record_at bytes then rest_by n (after_at bytes) else bytes
+rest_by (suc n) bytes =
+    if is_record_at bytes then rest_by n (after_at bytes)
+    else if is_skipped_at bytes
+    then take (8 + length_at bytes) bytes ++ rest_by n (after_at bytes) else bytes
 
--- The contents of the records that bytes begin with, up to where they go on with no record. No
--- record is shorter than a byte, so there are no more than the bytes are.
-unfoldable pub contents : List ℕ → List (List ℕ)
+-- The contents of the records of a file, up to where it goes on with neither a record nor one that
+-- is skipped; None for one that is skipped and kept a body. No record is shorter than a byte, so
+-- there are no more than the bytes are.
+unfoldable pub contents : List ℕ → List (Option (List ℕ))
 unfolding contents_by
 contents bytes = contents_by (length bytes) bytes
 
--- The bytes after these records, which are not read: a record that is cut short, or is damaged, and
--- what is after it.
+-- The bytes that are not read: those of records that are skipped, and, at the end, those of a
+-- record that is cut short, or is damaged and isn't skipped, and of what is after it.
 unfoldable pub rest : List ℕ → List ℕ
 unfolding rest_by
 rest bytes = rest_by (length bytes) bytes
@@ -98,10 +124,39 @@ note_of [] = None
 note_of (kind ∷ bytes) =
     if (kind == 2) && (length bytes == 8) then Some (from_le_bytes w64 bytes) else None
 
--- the bodies of records, in order
-abbrev pub bodies : List (List ℕ) → List (List ℕ)
-bodies contents = filter_map body_of contents
+-- the body of a record that was read, None for one that is damaged; nothing if it kept none
+abbrev pub slot_of : Option (List ℕ) → Option (Option (List ℕ))
+slot_of None = Some None
+slot_of (Some content) = option_map Some (body_of content)
+
+-- the number that such a record notes, if it does
+abbrev pub noted_by : Option (List ℕ) → Option ℕ
+noted_by None = None
+noted_by (Some content) = note_of content
+
+-- the bodies of records, in order, None for a damaged one
+abbrev pub bodies : List (Option (List ℕ)) → List (Option (List ℕ))
+bodies contents = filter_map slot_of contents
 
 -- the numbers that records note, in order
-abbrev pub notes : List (List ℕ) → List ℕ
-notes contents = filter_map note_of contents
+abbrev pub notes : List (Option (List ℕ)) → List ℕ
+notes contents = filter_map noted_by contents
+
+-- ---- numbers
+
+-- Bodies with their numbers, which go from this one on. A damaged body has one too.
+abbrev pub numbered : ℕ → List (Option (List ℕ)) → List (ℕ × List ℕ)
+numbered n [] = []
+numbered n (None ∷ bodies) = numbered (n + 1) bodies
+numbered n (Some body ∷ bodies) = (n, body) ∷ numbered (n + 1) bodies
+
+-- one more than some, but none for none
+abbrev pub one_more : ℕ → ℕ
+one_more zero = zero
+one_more (suc n) = suc (suc n)
+
+-- how many numbers bodies take, up to the last one that isn't damaged
+abbrev pub span : List (Option (List ℕ)) → ℕ
+span [] = 0
+span (None ∷ bodies) = one_more (span bodies)
+span (Some body ∷ bodies) = suc (span bodies)

@@ -8,6 +8,7 @@ use Rattle.spool.specs.Crashes.{Only}
 use Rattle.spool.specs.Spools.{end_of, done_to, next_number, waiting, waiting_from, CanGrow}
 use Rattle.spool.specs.Spools.{notes_in, greatest, Rises}
 use Rattle.spool.specs.Records.{IsContent, spelled, body_content, note_content, note_size, rest}
+use Rattle.spool.specs.declared.records.WaitingBody.{WaitingBody}
 use Rattle.spool.specs.declared.state.Segment.{Segment}
 use Rattle.spool.specs.declared.state.Spool.{Spool}
 
@@ -18,6 +19,10 @@ device_of spool = spool.device
 -- how many bytes the files of a spool may have
 abbrev pub limit_of : {D : Type 0} → Spool D → ℕ
 limit_of spool = spool.limit
+
+-- bodies that wait, each with its number
+abbrev pub waiting_view : List WaitingBody → List (ℕ × List ℕ)
+waiting_view bodies = map (λ body. (body.number, body.bytes.items)) bodies
 
 -- what a spool keeps of a file
 abbrev pub segment_of : SpoolFile → Segment

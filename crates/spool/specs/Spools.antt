@@ -1,32 +1,34 @@
 -- What the files of a spool mean. (profile)
 use Rattle.std.specs.Prelude.{◌≡◌, ◌⊎◌, ℕ, ◌+◌, ◌-◌, ◌*◌, ◌<◌, ◌≤◌, ◌==◌, max, Bool, List, [], ◌∷◌}
 use Rattle.std.specs.Prelude.{◌++◌}
-use Rattle.std.specs.Prelude.{length, map, take, drop, flat_map, filter, sum_by, nat_le, true}
+use Rattle.std.specs.Prelude.{length, map, take, flat_map, filter, sum_by, nat_le, true, Option}
 use Rattle.std.specs.Prelude.{if◌then◌else◌, Any, ◌^◌}
 use Rattle.std.specs.List.{AllByRecursion, enumerate_from}
 use Rattle.spool.specs.Disks.{SpoolFile, Disk, disk_size}
 use Rattle.spool.specs.Records.{contents, rest, bodies, notes, note_size, spelled, body_content}
+use Rattle.spool.specs.Records.{numbered, span}
 
 -- ---- one file
 
--- the bodies of a file, in order
-unfoldable pub bodies_in : SpoolFile → List (List ℕ)
+-- the bodies of a file, in order, None for a damaged one
+unfoldable pub bodies_in : SpoolFile → List (Option (List ℕ))
 bodies_in file = bodies (contents file.bytes)
 
 -- the numbers that a file notes
 unfoldable pub notes_in : SpoolFile → List ℕ
 notes_in file = notes (contents file.bytes)
 
--- whether all bytes of a file are records
+-- whether all bytes of a file are records that check
 unfoldable pub is_whole : SpoolFile → Bool
 is_whole file = length (rest file.bytes) == 0
 
--- The number after those of a file's bodies: these are numbered from the file's own number on.
+-- The number after that of a file's last body: they are numbered from the file's own number on.
 unfoldable pub bodies_end : SpoolFile → ℕ
 unfolding bodies_in
-bodies_end file = file.number + length (bodies_in file)
+bodies_end file = file.number + span (bodies_in file)
 
--- The number after those that a file has taken: what isn't read at its end has taken one.
+-- The number after those that a file has taken: where it has bytes that aren't read, they count as
+-- one more.
 unfoldable pub end_of : SpoolFile → ℕ
 unfolding bodies_end is_whole
 end_of file = bodies_end file + (if is_whole file then 0 else 1)
@@ -46,9 +48,13 @@ done_to disk = greatest (flat_map notes_in disk)
 unfoldable pub next_number : Disk → ℕ
 next_number disk = max (done_to disk) (greatest (map end_of disk))
 
+-- those with this number or a higher one
+abbrev pub numbered_from : ℕ → List (ℕ × List ℕ) → List (ℕ × List ℕ)
+numbered_from number bodies = filter (λ body. nat_le number body.0) bodies
+
 -- the bodies of a file with this number or a higher one, each with its number
 unfoldable pub waiting_in : ℕ → SpoolFile → List (ℕ × List ℕ)
-waiting_in number file = drop (number - file.number) (enumerate_from file.number (bodies_in file))
+waiting_in number file = numbered_from number (numbered file.number (bodies_in file))
 
 -- the same of all files, in order
 unfoldable pub waiting_from : ℕ → Disk → List (ℕ × List ℕ)
@@ -68,14 +74,10 @@ damaged_bytes disk = sum_by (λ file. length (rest file.bytes)) disk
 unfoldable pub reserved : Disk → ℕ
 reserved disk = disk_size disk + note_size * (next_number disk - done_to disk)
 
--- those with this number or a higher one
-abbrev pub numbered_from : ℕ → List (ℕ × List ℕ) → List (ℕ × List ℕ)
-numbered_from number bodies = filter (λ body. nat_le number body.0) bodies
-
 -- ---- numbers that rise
 
--- The bodies of each file have higher numbers than those of the files before it. What isn't read at
--- the end of a file doesn't count here.
+-- The bodies of each file have higher numbers than those of the files before it. Damaged bodies at
+-- the end of a file, and what isn't read there, don't count here.
 abbrev pub Rises : Disk → Type 0
 Rises [] = Unit {0}
 Rises (file ∷ disk) = AllByRecursion (λ later. bodies_end file ≤ later.number) disk × Rises disk

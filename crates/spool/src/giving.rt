@@ -1,28 +1,18 @@
 //! Giving the bodies that wait, and what a spool says of itself.
 ghost use Rattle.std.specs.Prelude.{◌≡◌, ℕ, ◌+◌, ◌≤◌, List, [], ◌∷◌, ◌++◌, length, map, max, Some, slice_get, IfOk};
-ghost use Rattle.std.specs.Prelude.{◌↔◌, ◌≢◌, drop, true, if◌then◌else◌, ◌==◌, OnOk, IsErrOf};
+ghost use Rattle.std.specs.Prelude.{◌↔◌, ◌≢◌, ◌⊎◌, ◌^◌, true, if◌then◌else◌, ◌==◌, OnOk, IsErrOf};
 ghost use Rattle.std.specs.Option.{option_to_list};
-ghost use Rattle.std.specs.List.{enumerate_from};
 ghost use Rattle.spool.specs.Disks.{SpoolFile, disk_size};
 ghost use Rattle.spool.specs.Crashes.{LeavesOnly};
-ghost use Rattle.spool.specs.Records.{contents, bodies};
-ghost use Rattle.spool.specs.Spools.{done_to, next_number, waiting_in};
-ghost use Rattle.spool.specs.Settled.{IsSettled, device_of, limit_of, segment_of};
+ghost use Rattle.spool.specs.Records.{contents, bodies, numbered};
+ghost use Rattle.spool.specs.Spools.{done_to, next_number, numbered_from, waiting_in};
+ghost use Rattle.spool.specs.Settled.{IsSettled, device_of, limit_of, segment_of, waiting_view};
 
-use crate::records::{bodies_after, torn_count};
+use crate::records::{WaitingBody, bodies_from, torn_count};
 use crate::state::{Segment, Spool};
 use crate::{Device, SpoolError};
 use gzip::CrcTable;
 use std::alloc::Global;
-
-/// The bodies of a file that wait, in order.
-#[derive(Drop)]
-pub struct WaitingBodies {
-    /// The number of the first one. The others have those after it.
-    pub first: u64,
-    /// Their bytes.
-    pub bodies: Vec<Vec<u8>>,
-}
 
 /// What is kept of a file, by its index.
 fn segment_at(older: &[Segment], growing: Option<Segment>, index: usize) -> Option<Segment>
@@ -35,7 +25,7 @@ fn segment_at(older: &[Segment], growing: Option<Segment>, index: usize) -> Opti
 }
 
 /// Whether this is what is kept of a file with these bodies and bytes that are not read.
-fn is_same(segment: Segment, len: u64, count: u64, rest: usize) -> bool
+fn is_same(segment: Segment, len: u64, count: u64, rest: u64) -> bool
     ensures { (result ≡ true) ↔ (segment ≡ record {
       number = segment.number;
       «end» = segment.number + count + (if rest == 0 then 0 else 1);
@@ -44,32 +34,37 @@ fn is_same(segment: Segment, len: u64, count: u64, rest: usize) -> bool
     }) }
 {
     let end = u128::from(segment.number) + u128::from(count) + u128::from(torn_count(rest));
-    u128::from(segment.end) == end && segment.len == len && segment.rest == rest as u64
+    u128::from(segment.end) == end && segment.len == len && segment.rest == rest
 }
 
-/// The bodies of a file but for so many, the first ones, if its bytes are as it is known.
+/// The bodies of a file that have a number from this on, if its bytes are as it is known.
 ///
 /// # Errors
 ///
-/// `Memory`; `Failed` if they are not.
+/// `Memory`; `Failed` if they are not, or there are 2^64 numbers.
 fn known_bodies(
     alloc: Global,
     table: &CrcTable<Global>,
     bytes: &[u8],
     segment: Segment,
-    skip: u64,
-) -> Result<Vec<Vec<u8>>, SpoolError>
-    ensures bodies { IfOk result (λ v. map (λ body. body.items) v.items
-        ≡ drop skip (bodies (contents bytes.now))) }
+    from: u64,
+) -> Result<Vec<WaitingBody>, SpoolError>
+    ensures bodies { IfOk result (λ v. waiting_view v.items
+        ≡ numbered_from from (numbered segment.number (bodies (contents bytes.now)))) }
     ensures known { OnOk result (segment ≡ segment_of (record {
       number = segment.number;
       bytes = bytes.now;
     })) }
     ensures failed { IsErrOf result SpoolError.Failed
-        → segment ≢ segment_of (record { number = segment.number; bytes = bytes.now }) }
+        → (segment ≢ segment_of (record { number = segment.number; bytes = bytes.now }))
+        ⊎ (2 ^ 64 ≤ segment.number + length bytes.now) }
 {
-    let found = bodies_after(alloc, table, bytes, skip)?;
-    if !is_same(segment, bytes.len() as u64, found.count, found.rest) {
+    let len = bytes.len() as u64;
+    if segment.number.checked_add(len).is_none() {
+        return Err(SpoolError::Failed);
+    }
+    let found = bodies_from(alloc, table, bytes, segment.number, from)?;
+    if !is_same(segment, len, found.records.bodies, found.records.rest) {
         return Err(SpoolError::Failed);
     }
     Ok(found.bodies)
@@ -85,8 +80,9 @@ impl<D: Device> Spool<D> {
     }
 
     /// The bodies of a file that wait and have this number or a higher one, by the file's index,
-    /// counted from 0 for the oldest. Those of all files, in order, are all such bodies. One file
-    /// is read at a time, and nothing is changed.
+    /// counted from 0 for the oldest, in the order of their numbers. Those of all files, in order,
+    /// are all such bodies. A body whose record is damaged isn't given, and its number is left out.
+    /// One file is read at a time, and nothing is changed.
     ///
     /// # Errors
     ///
@@ -98,12 +94,12 @@ impl<D: Device> Spool<D> {
         alloc: Global,
         index: usize,
         from: u64,
-    ) -> Result<WaitingBodies, SpoolError>
+    ) -> Result<Vec<WaitingBody>, SpoolError>
         requires { D.is_known → IsSettled D.files D.moment D.left_at self.old }
         ensures settled { D.is_known → IsSettled D.files D.moment D.left_at self.new }
         ensures bodies { IfOk result (λ found. D.is_known → (file : SpoolFile)
             → slice_get (D.files (device_of self.old)) index ≡ Some file
-            → enumerate_from found.first (map (λ body. body.items) found.bodies.items)
+            → waiting_view found.items
             ≡ waiting_in (max (done_to (D.files (device_of self.old))) from) file) }
         ensures same { D.is_known
             → D.files (device_of self.new) ≡ D.files (device_of self.old) }
@@ -117,12 +113,8 @@ impl<D: Device> Spool<D> {
         };
         let bytes = self.device.read(alloc, index)?;
         let start = self.done.max(from);
-        let skip = start.saturating_sub(segment.number);
-        let bodies = known_bodies(alloc, &self.table, &bytes, segment, skip)?;
-        Ok(WaitingBodies {
-            first: segment.number.max(start),
-            bodies,
-        })
+        let bodies = known_bodies(alloc, &self.table, &bytes, segment, start)?;
+        Ok(bodies)
     }
 
     /// The number that the next body gets.

@@ -62,20 +62,19 @@ impl Survey {
         }
         let records = scan(table, bytes);
         let len = bytes.len() as u64;
-        let rest = records.rest as u64;
         let bodies_end = number + records.bodies;
         let end = bodies_end + torn_count(records.rest);
         let Some(size) = self.size.checked_add(len) else {
             return Err(SpoolError::Full);
         };
-        let Some(damaged) = self.damaged.checked_add(rest) else {
+        let Some(damaged) = self.damaged.checked_add(records.rest) else {
             return Err(SpoolError::Full);
         };
         self.segments.push(Segment {
             number,
             end,
             len,
-            rest,
+            rest: records.rest,
         })?;
         self.done = self.done.max(records.done);
         self.bodies_end = self.bodies_end.max(bodies_end);

@@ -4,7 +4,7 @@ ghost use Rattle.spool.specs.Settled.{IsSettled};
 
 use crate::tests::device::{Change, TestDevice};
 use crate::tests::equal::assert_equal;
-use spool::{Device, MemoryDevice, MemoryFile, Opened, Spool, SpoolError, WaitingBodies};
+use spool::{Device, MemoryDevice, MemoryFile, Opened, Spool, SpoolError, WaitingBody};
 use std::alloc::{AllocError, Global};
 
 /// The record of the body 7, 8, with the CRC-32 of zlib.
@@ -35,13 +35,11 @@ fn opened<D: Device + Drop>(
 }
 
 /// Lists bodies: of each its number, its length and its bytes.
-fn push_listed(out: &mut Vec<u8>, found: &WaitingBodies) -> Result<(), AllocError> {
-    let mut number = found.first;
-    for body in found.bodies.iter() {
-        out.push((number % 256) as u8)?;
-        out.push((body.len() % 256) as u8)?;
-        out.extend_from_slice(body.as_slice())?;
-        number = number.wrapping_add(1);
+fn push_listed(out: &mut Vec<u8>, found: &[WaitingBody]) -> Result<(), AllocError> {
+    for body in found.iter() {
+        out.push((body.number % 256) as u8)?;
+        out.push((body.bytes.len() % 256) as u8)?;
+        out.extend_from_slice(body.bytes.as_slice())?;
     }
     Ok(())
 }
@@ -153,9 +151,11 @@ fn refusal(
 fn a_file_that_has_changed_is_refused(rt: HostRuntime) {
     let two = [FIRST, SECOND];
     let noted = [FIRST, NOTE];
+    let between = [FIRST, NOTE, SECOND];
     let torn = [FIRST, TORN];
     let all = [5, 2, 7, 8, 6, 1, 9].as_slice();
     let one = [5, 2, 7, 8].as_slice();
+    let later = [6, 1, 9].as_slice();
     let none = [].as_slice();
     let failed = Some(SpoolError::Failed);
     for (parts, change, wanted, left, damaged) in [
@@ -163,7 +163,10 @@ fn a_file_that_has_changed_is_refused(rt: HostRuntime) {
         (torn.as_slice(), Change::Nothing, None, one, 9),
         (two.as_slice(), Change::FlipsBit(20), failed, one, 10),
         (two.as_slice(), Change::FlipsBit(11), failed, one, 10),
-        (two.as_slice(), Change::FlipsBit(10), failed, none, 21),
+        (two.as_slice(), Change::FlipsBit(10), failed, later, 11),
+        (two.as_slice(), Change::FlipsBit(0), failed, none, 21),
+        (between.as_slice(), Change::FlipsBit(20), failed, all, 17),
+        (noted.as_slice(), Change::FlipsBit(10), failed, none, 11),
         (two.as_slice(), Change::CutsByte, failed, one, 9),
         (two.as_slice(), Change::AddsByte, failed, all, 1),
         (noted.as_slice(), Change::FlipsBit(20), failed, one, 17),

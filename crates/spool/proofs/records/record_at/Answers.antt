@@ -1,56 +1,26 @@
-use Rattle.std.proofs.Common.{refl, ap, sym, ◌∙◌, ◌≤◌, ℕ, take, drop, length, arith}
-use Rattle.std.proofs.Common.{length-drop}
+use Rattle.std.proofs.Common.{ap, sym, ◌∙◌}
 use Rattle.model_deflate.specs.Crc.{crc32}
-use Rattle.spool.proofs.RecordLaws.{none_short, begun}
-use Rattle.spool.proofs.ScanLaws.{no-record, parts-at}
+use Rattle.spool.proofs.RecordLaws.{begun}
+use Rattle.spool.proofs.ScanLaws.{no-frame, no-check}
 use Rattle.spool.proofs.records.record_at.Goals as goal
-use Rattle.spool.proofs.records.record_at.Goals.{then-length-eq0-via-then-length-eq0}
-use Rattle.spool.proofs.records.record_at.Goals.{
-  then-length-eq0-via-else-length-eq0+then-after-length,
-}
 
 pub returns-in_default : goal.returns-in_default
-returns-in_default c = none_short c.args.bytes.now (omega (arith, c.in_default.ensures))
-
-pub returns-then-length-eq0 : goal.returns-then-length-eq0
-returns-then-length-eq0 c =
-    let h = c.in-Some.ensures in
-    no-record c.args.bytes.now (λ b. elim c.then-length-eq0.branch [
-      | then-length-eq0-via-then-length-eq0 w ↦ omega (arith, h.0, b.some, w.if-length-eq0.true)
-      | then-length-eq0-via-else-length-eq0+then-after-length w ↦
-          omega (
-            arith,
-            h.0,
-            b.there,
-            w.if-after-length.true,
-            ap length h.2,
-            length-drop 8 c.args.bytes.now,
-          )
-    ])
+returns-in_default c = no-frame c.args.bytes.now c.in_default.ensures
 
 pub returns-then-check : goal.returns-then-check
 returns-then-check c =
     let h = c.in-Some.ensures in
-    let front = c.split_at.ensures.front ∙ ap (λ (k : ℕ). take k c.in-Some.after.now) h.0 in
-    let parts = parts-at c.args.bytes.now c.in-Some.after.now _ _ h.2 h.3 front refl in
-    no-record c.args.bytes.now
-    (λ b. c.if-check.true (c.check.ensures ∙ (ap crc32 parts.0 ∙ (sym b.check ∙ sym h.1))))
+    no-check c.args.bytes.now
+    (λ same. c.if-check.true (c.check.ensures ∙ (ap crc32 h.2 ∙ (sym same ∙ sym h.1))))
 
 pub returns : goal.returns
 returns c =
-    let h = c.in-Some.ensures in
-    let bytes = c.args.bytes.now in
-    let front = c.split_at.ensures.front ∙ ap (λ (k : ℕ). take k c.in-Some.after.now) h.0 in
-    let back = c.split_at.ensures.back ∙ ap (λ (k : ℕ). drop k c.in-Some.after.now) h.0 in
-    let parts =
-    parts-at bytes c.in-Some.after.now c.split_at.result.0.now c.split_at.result.1.now h.2 h.3 front
-    back in
-    let fits : c.in-Some.length ≤ length c.in-Some.after.now = c.if-after-length.false in (
-      begun bytes (record {
-        some = omega (arith, h.0, c.if-length-eq0.false);
-        there = omega (arith, h.0, h.3, fits, ap length h.2, length-drop 8 bytes);
-        check = sym h.1 ∙ (sym c.if-check.false ∙ (c.check.ensures ∙ ap crc32 parts.0));
+    let h = c.in-Some.ensures in (
+      begun c.args.bytes.now (record {
+        some = h.0.some;
+        there = h.0.there;
+        check = sym h.1 ∙ (sym c.if-check.false ∙ (c.check.ensures ∙ ap crc32 h.2));
       }),
-      parts.0,
-      parts.1,
+      h.2,
+      h.3,
     )

@@ -1,15 +1,9 @@
-use Rattle.std.proofs.Common.{◌≡◌, ◌+◌, ◌*◌, ◌≤◌, length, max}
-use Rattle.spool.specs.Records.{contents, rest, bodies, notes}
-use Rattle.spool.specs.Spools.{greatest}
+use Rattle.std.proofs.Common.{length}
+use Rattle.spool.specs.Reading.{IsRead}
 use Rattle.spool.proofs.records.scan.Given as goal
 
-abbrev pub invariant-loop-content : goal.invariant-loop-content
-invariant-loop-content l = record {
-  bodies_are : l.bodies + length (bodies (contents l.left)) ≡ length (bodies (contents l.bytes));
-  notes_are : max l.done (greatest (notes (contents l.left))) ≡ greatest (notes (contents l.bytes));
-  rest_is : rest l.left ≡ rest l.bytes;
-  few : 9 * l.bodies + length l.left ≤ length l.bytes;
-}
+abbrev pub invariant-loop-entry : goal.invariant-loop-entry
+invariant-loop-entry l = IsRead l.bytes l.left l.found
 
-abbrev pub decreases-loop-content : goal.decreases-loop-content
-decreases-loop-content l = length l.left
+abbrev pub decreases-loop-entry : goal.decreases-loop-entry
+decreases-loop-entry l = length l.left

@@ -3,7 +3,7 @@ use Rattle.std.specs.Prelude.{IsNone, Option}
 use Rattle.std.proofs.lemmas.List.{length-map}
 use Rattle.relay_queue.specs.Bodies.{bodies_view}
 use Rattle.spool.specs.Spools.{numbered_from}
-use Rattle.spool.specs.declared.giving.WaitingBodies.{WaitingBodies}
+use Rattle.relay_store.specs.declared.waiting.WaitingBodies.{WaitingBodies}
 use Rattle.relay_store.specs.Fronts.{BeginWith, bodies_of, spool_waiting}
 use Rattle.relay_store.specs.Kept.{Kept, remaining_in}
 use Rattle.relay_store.proofs.Fronts.{begin-some}

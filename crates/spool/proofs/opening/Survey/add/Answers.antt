@@ -1,5 +1,5 @@
 use Rattle.std.proofs.Common.{sym, ap, ◌∙◌, List, ℕ, length, ◌≡◌, ◌+◌, ◌++◌, [], ◌∷◌, arith}
-use Rattle.spool.specs.Records.{contents, rest, bodies, notes}
+use Rattle.spool.specs.Records.{contents, rest, bodies, notes, span}
 use Rattle.spool.specs.Spools.{greatest}
 use Rattle.spool.proofs.SurveyLaws.{survey-more, survey-overlaps}
 use Rattle.spool.proofs.opening.Survey.add.Goals as goal
@@ -11,7 +11,7 @@ returns-clause-survey c = λ disk file was number bytes.
     let len : length c.args.bytes.now ≡ length file.bytes = ap length (sym bytes) in
     survey-more disk file c.args.self.now _ c.args.number r.bodies c.torn_count.result r.rest r.done
     was number (omega (arith, c.if-number-self.false))
-    (e.bodies ∙ ap (λ (l : List ℕ). length (bodies (contents l))) (sym bytes))
+    (e.bodies ∙ ap (λ (l : List ℕ). span (bodies (contents l))) (sym bytes))
     (e.done ∙ ap (λ (l : List ℕ). greatest (notes (contents l))) (sym bytes))
     (e.rest ∙ ap (λ (l : List ℕ). length (rest l)) (sym bytes))
     c.torn_count.ensures

@@ -1,7 +1,6 @@
-use Rattle.std.proofs.Common.{◌≡◌, ℕ, ap, ap₂, ◌∙◌, List, ◌++◌, ◌-◌, max, drop}
+use Rattle.std.proofs.Common.{◌≡◌, ℕ, ap, ◌∙◌, List, ◌++◌, max}
 use Rattle.std.specs.Prelude.{Some, slice_get}
 use Rattle.std.specs.Option.{option_to_list}
-use Rattle.spool.specs.Records.{contents, bodies}
 use Rattle.spool.specs.Spools.{done_to}
 use Rattle.spool.specs.Settled.{segment_of}
 use Rattle.spool.specs.declared.state.Segment.{Segment}
@@ -23,12 +22,6 @@ returns-clause-bodies g c = λ known file at.
     let number : c.in-Some.segment.number ≡ file.number = ap (λ (x : Segment). x.number) same in
     let start : c.max-start.result ≡ max (done_to disk) c.args.from =
     c.max-start.ensures ∙ ap (λ (n : ℕ). max n c.args.from) s.done in
-    let skip : c.saturating_sub-skip.result ≡ max (done_to disk) c.args.from - file.number =
-    c.saturating_sub-skip.ensures ∙ ap₂ (λ (n : ℕ) (m : ℕ). n - m) start number in
-    let first : c.max.result ≡ max file.number (max (done_to disk) c.args.from) =
-    c.max.ensures ∙ ap₂ (λ (n : ℕ) (m : ℕ). max n m) number start in
     let bytes = c.deref-2.ensures.value ∙ c.in_ok-bytes.ensures.bytes known file at in
-    bodies-waiting (max (done_to disk) c.args.from) c.max.result c.saturating_sub-skip.result file _
-    skip first
-    (c.in_ok-bodies.ensures.bodies
-    ∙ ap (λ (l : List ℕ). drop c.saturating_sub-skip.result (bodies (contents l))) bytes)
+    bodies-waiting (max (done_to disk) c.args.from) c.max-start.result c.in-Some.segment.number file
+    _ _ start number bytes c.in_ok-bodies.ensures.bodies
